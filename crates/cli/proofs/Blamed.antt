@@ -1,78 +1,33 @@
 -- Which files the answers of calls blame.
-use Rattle.std.proofs.Common.{◌≡◌, ◌∙◌, ◌<◌, ◌-◌, ◌^◌, ℕ, zero, suc, List, Bool, false, Option, Some, None, Result, Ok, Err, refl, sym, ap, subst, inl, inr, arith}
+use Rattle.std.proofs.Common.{◌≡◌, ◌∙◌, ◌+◌, ◌<◌, ℕ, zero, suc, List, Bool, Option, Result, Ok, Err, refl, sym, ap, subst, inl, inr, arith}
+use Rattle.std.specs.Prelude.{IsErrOf}
 use Rattle.certificate.specs.declared.format.Format.{Format}
-use Rattle.session.specs.Devices.{Device, FailsIn, IsReadUntil}
+use Rattle.session.specs.Devices.{Device, FailsIn}
 use Rattle.source_lines.specs.Sources.{SourceState}
-use Rattle.cli.specs.Files.{AsksFile, BlamesFile, ClassifiesFile, IsUnopened, IsUnreadable, Store}
+use Rattle.cli.proofs.ReadFiles.{IsOfFiles, read_blamed, read_there}
+use Rattle.cli.specs.Files.{AsksFile, ClassifiesFile, IsSourceOf, Store}
 use Rattle.cli.specs.Classifications.{IsClassification, IsDocumentRead}
 use Rattle.session.specs.WrittenTexts.{AreWritten, AreWrittenUntil, Sinks, Texts}
 use Rattle.cli.specs.declared.fault.ClassifyFault.{ClassifyFault}
 use Rattle.cli.specs.declared.fault.ClassifyFault.TheVariants as classifying
 use Rattle.classification.specs.declared.classification.Summary.{Summary}
 use Rattle.device.specs.Device.{HasFailed}
-use Rattle.profile.specs.Faults.{RefusesKnown}
-use Rattle.profile.specs.declared.fault.DocumentFault.{DocumentFault}
 use Rattle.profile.specs.declared.fault.DocumentFault.TheVariants as reading
 use Rattle.program.specs.declared.version.Version.{Version}
 use Rattle.session.specs.TextAnswers.{IsRead}
 use Rattle.session.specs.declared.question_fault.QuestionFault.{QuestionFault}
 use Rattle.session.specs.declared.question_fault.QuestionFault.TheVariants as asking
-use Rattle.system_files.specs.Contents.{IsThere}
-
--- ---- reading
-
--- counts that are both 0 tell of no failure
-unfailed : (old new : ℕ) → old ≡ 0 → new ≡ 0 → HasFailed old new → ⊥
-unfailed old new none none' (inl rose) = absurd (omega (arith, none, none', rose))
-unfailed old new none none' (inr last) = let bad : 0 ≡ 2 ^ 64 - 1 = sym none' ∙ last in absurd (cc)
-
--- a source that failed is one that can fail
-pub unreadable : (fails known : Bool) (held : Option (List ℕ)) (old new : ℕ) → (fails ≡ false → old ≡ 0) → (fails ≡ false → new ≡ 0) → HasFailed old new → IsUnreadable fails known held
-unreadable fails known held old new none none' failed is = absurd (unfailed old new (none is) (none' is) failed)
-
--- a document that is not opened is refused
-pub unopened_is_refused : (version : Version) (known : Bool) (held : Option (List ℕ)) (most : ℕ) (fault : DocumentFault) → IsUnopened known held fault → RefusesKnown version held most fault
-unopened_is_refused version known None most fault is = tt
-unopened_is_refused version known (Some bytes) most reading.Io is = tt
-unopened_is_refused version known (Some bytes) most reading.Memory is = tt
-unopened_is_refused version known (Some bytes) most reading.TooLarge is = absurd is
-unopened_is_refused version known (Some bytes) most reading.TooManyNames is = absurd is
-unopened_is_refused version known (Some bytes) most (reading.NotUtf8 at) is = absurd is
-unopened_is_refused version known (Some bytes) most (reading.Lex fault) is = absurd is
-unopened_is_refused version known (Some bytes) most (reading.Parse fault) is = absurd is
-unopened_is_refused version known (Some bytes) most (reading.Faults found) is = absurd is
-
--- the file of a document that is not opened is to blame
-pub unopened_is_blamed : (fails known : Bool) (held : Option (List ℕ)) (fault : DocumentFault) → IsUnopened known held fault → BlamesFile fails known held fault
-unopened_is_blamed fails known held reading.Io is = λ e. is
-unopened_is_blamed fails known held reading.Memory is = tt
-unopened_is_blamed fails known held reading.TooLarge is = absurd is
-unopened_is_blamed fails known held reading.TooManyNames is = absurd is
-unopened_is_blamed fails known held (reading.NotUtf8 at) is = absurd is
-unopened_is_blamed fails known held (reading.Lex fault) is = absurd is
-unopened_is_blamed fails known held (reading.Parse fault) is = absurd is
-unopened_is_blamed fails known held (reading.Faults found) is = absurd is
-
--- a document that is read until a fault: its file is to blame where the source failed
-read_blamed : (fails known : Bool) (held : Option (List ℕ)) (fault : DocumentFault) (old new : SourceState) → IsThere known held → (fails ≡ false → old.failures ≡ 0) → (fails ≡ false → new.failures ≡ 0) → IsReadUntil fault old new → BlamesFile fails known held fault
-read_blamed fails known held reading.Io old new there none none' is = unreadable fails known held old.failures new.failures none none' is.failed
-read_blamed fails known held reading.Memory old new there none none' is = tt
-read_blamed fails known held reading.TooLarge old new there none none' is = there
-read_blamed fails known held reading.TooManyNames old new there none none' is = there
-read_blamed fails known held (reading.NotUtf8 at) old new there none none' is = there
-read_blamed fails known held (reading.Lex fault) old new there none none' is = there
-read_blamed fails known held (reading.Parse fault) old new there none none' is = there
-read_blamed fails known held (reading.Faults found) old new there none none' is = there
 
 -- ---- questions
 
-pub asks_file : {X : Type 0} (fails known : Bool) (held : Option (List ℕ)) (answer : Result X QuestionFault) (old new : SourceState) → IsThere known held → (fails ≡ false → old.failures ≡ 0) → (fails ≡ false → new.failures ≡ 0) → IsRead answer old new → AsksFile fails known held answer
-asks_file fails known held (Ok x) old new there none none' is = there
-asks_file fails known held (Err (asking.Document fault)) old new there none none' is = read_blamed fails known held fault old new there none none' is
-asks_file fails known held (Err asking.Limit) old new there none none' is = there
-asks_file fails known held (Err (asking.UnknownName name)) old new there none none' is = there
-asks_file fails known held (Err (asking.Expression fault)) old new there none none' is = there
-asks_file fails known held (Err asking.Memory) old new there none none' is = there
+pub asks_file : {X : Type 0} (fails known : Bool) (held : Option (List ℕ)) (answer : Result X QuestionFault) (limit : ℕ) (old new : SourceState) → IsSourceOf known held old → IsOfFiles fails known new → IsRead answer old new → (IsErrOf answer (asking.Document reading.TooLarge) → new.most + limit < old.most) → AsksFile fails known held answer
+asks_file fails known held (Ok x) limit old new is of read beyond = read_there known held old new is read
+asks_file fails known held (Err (asking.Document fault)) limit old new is of read beyond =
+    read_blamed fails known held fault limit old new is of read (λ same. beyond (ap asking.Document same))
+asks_file fails known held (Err asking.Limit) limit old new is of read beyond = read_there known held old new is read
+asks_file fails known held (Err (asking.UnknownName name)) limit old new is of read beyond = read_there known held old new is read
+asks_file fails known held (Err (asking.Expression fault)) limit old new is of read beyond = read_there known held old new is read
+asks_file fails known held (Err asking.Memory) limit old new is of read beyond = read_there known held old new is read
 
 -- ---- writes that failed
 
@@ -108,8 +63,8 @@ more : (old new : ℕ) → old ≡ 0 → HasFailed old new → 0 < new
 more old new none (inl rose) = omega (arith, none, rose)
 more old new none (inr last) = omega (arith, last)
 
-some : (old new : Device) (text : List ℕ) → old.1 ≡ 0 → FailsIn old new text → 0 < new.1
-some old new text working fails = more old.1 new.1 working fails.1
+pub some_failed : (old new : Device) (text : List ℕ) → old.1 ≡ 0 → FailsIn old new text → 0 < new.1
+some_failed old new text working fails = more old.1 new.1 working fails.1
 
 pub written_none : (old new : Sinks) (texts : Texts) (before behind : ℕ) → AreWorking old → AreCounted new before behind → AreWritten old new texts → behind ≡ before
 written_none old new texts before behind working counted written =
@@ -129,22 +84,22 @@ written_some zero old new texts before behind working counted written = absurd w
 written_some (suc zero) old new texts before behind working counted written =
     fails_from _ _ before behind counted.same
     (counted.certificate.unfailed (same_device old.certificate new.certificate written.2 working.certificate) ∙ counted.instances.unfailed (same_device old.instances new.instances written.1 working.instances))
-    (counted.taxonomy.failed (some old.taxonomy new.taxonomy texts.taxonomy working.taxonomy written.0))
+    (counted.taxonomy.failed (some_failed old.taxonomy new.taxonomy texts.taxonomy working.taxonomy written.0))
 written_some (suc (suc zero)) old new texts before behind working counted written =
     fails_from _ _ before behind (counted.taxonomy.unfailed (written.0.1 ∙ working.taxonomy) ∙ counted.same)
     (counted.certificate.unfailed (same_device old.certificate new.certificate written.2 working.certificate))
-    (counted.instances.failed (some old.instances new.instances texts.instances working.instances written.1))
+    (counted.instances.failed (some_failed old.instances new.instances texts.instances working.instances written.1))
 written_some (suc (suc (suc zero))) old new texts before behind working counted written =
     fails_from _ _ before behind (counted.instances.unfailed (written.1.1 ∙ working.instances) ∙ counted.taxonomy.unfailed (written.0.1 ∙ working.taxonomy) ∙ counted.same) refl
-    (counted.certificate.failed (some old.certificate new.certificate texts.certificate working.certificate written.2))
+    (counted.certificate.failed (some_failed old.certificate new.certificate texts.certificate working.certificate written.2))
 written_some (suc (suc (suc (suc n)))) old new texts before behind working counted written = absurd written
 
 -- ---- classifications
 
-pub classifies_file : (s : Store) (version : Version) (format : Format) (facts bytes : ℕ) (held left : Option (List ℕ)) (answer : Result Summary ClassifyFault) (source source' : SourceState) (old new : Sinks) → IsThere s.is_known held → (s.reads_fail ≡ false → source.failures ≡ 0) → (s.reads_fail ≡ false → source'.failures ≡ 0) → AreWorking old → AreCounted new s.failed_before s.failed_behind → IsDocumentRead answer source source' → IsClassification version format bytes facts left old new answer → ClassifiesFile s held answer
-classifies_file s version format facts bytes held left (Ok summary) source source' old new there unfailed unfailed' working counted read is = (there, written_none old new is.0 _ _ working counted is.2)
-classifies_file s version format facts bytes held left (Err (classifying.Document fault)) source source' old new there unfailed unfailed' working counted read is =
-    (read_blamed s.reads_fail s.is_known held fault source source' there unfailed unfailed' read, none new _ _ counted (untouched old new working is.1))
-classifies_file s version format facts bytes held left (Err classifying.Memory) source source' old new there unfailed unfailed' working counted read is = (there, none new _ _ counted (untouched old new working is.1))
-classifies_file s version format facts bytes held left (Err classifying.Limit) source source' old new there unfailed unfailed' working counted read is = (there, none new _ _ counted (untouched old new working is.1))
-classifies_file s version format facts bytes held left (Err (classifying.Io n)) source source' old new there unfailed unfailed' working counted read is = (there, written_some n old new is.1.1 _ _ working counted is.1.3)
+pub classifies_file : (s : Store) (version : Version) (format : Format) (facts bytes : ℕ) (held left : Option (List ℕ)) (answer : Result Summary ClassifyFault) (source source' : SourceState) (old new : Sinks) → IsSourceOf s.is_known held source → IsOfFiles s.reads_fail s.is_known source' → AreWorking old → AreCounted new s.failed_before s.failed_behind → IsDocumentRead answer source source' → (IsErrOf answer (classifying.Document reading.TooLarge) → source'.most + bytes < source.most) → IsClassification version format bytes facts left old new answer → ClassifiesFile s held answer
+classifies_file s version format facts bytes held left (Ok summary) source source' old new file of working counted read beyond is = (read_there s.is_known held source source' file read, written_none old new is.0 _ _ working counted is.2)
+classifies_file s version format facts bytes held left (Err (classifying.Document fault)) source source' old new file of working counted read beyond is =
+    (read_blamed s.reads_fail s.is_known held fault bytes source source' file of read (λ same. beyond (ap classifying.Document same)), none new _ _ counted (untouched old new working is.1))
+classifies_file s version format facts bytes held left (Err classifying.Memory) source source' old new file of working counted read beyond is = (read_there s.is_known held source source' file read, none new _ _ counted (untouched old new working is.1))
+classifies_file s version format facts bytes held left (Err classifying.Limit) source source' old new file of working counted read beyond is = (read_there s.is_known held source source' file read, none new _ _ counted (untouched old new working is.1))
+classifies_file s version format facts bytes held left (Err (classifying.Io n)) source source' old new file of working counted read beyond is = (read_there s.is_known held source source' file read, written_some n old new is.1.1 _ _ working counted is.1.3)

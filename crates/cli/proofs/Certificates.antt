@@ -1,11 +1,17 @@
 -- What is read of a certificate's source, and what the verdict on it is on.
-use Rattle.std.proofs.Common.{◌≡◌, ℕ, List, [], ◌++◌, Option, Some, None, Result, Ok, Err, IfOk, IfErr, inl, inr, sym, subst}
-use Rattle.std.specs.Io.KnownBytes.{Consumes, Keeps}
+use Rattle.std.proofs.Common.{◌≡◌, ℕ, List, [], ◌++◌, Option, Some, None, Result, Ok, Err, IfOk, IfErr, inl, inr, refl, sym, subst}
+use Rattle.std.specs.Io.KnownBytes.{Consumes}
 use Rattle.axioms.specs.Ontology.{Ontology}
-use Rattle.cert_check.specs.SourceVerdicts.{IsJudgedFrom}
+use Rattle.cert_check.specs.SourceVerdicts.{IsBadText, IsJudgedFrom, IsVerdictWith}
+use Rattle.cert_check.specs.declared.verdict.Reason.TheVariants.{AxiomFails, BadLine, BadText, ClaimDisagrees, ClaimMissing, IndividualDisagrees, InstancesDiffer, NoContradiction, TaxonomyDiffers}
 use Rattle.cert_check.specs.declared.verdict.Verdict.{Verdict}
+use Rattle.cert_check.specs.declared.verdict.Verdict.TheVariants.{Accepted, Rejected}
+use Rattle.certificate.specs.Certificate.{Certificate, One}
+use Rattle.certificate.specs.Prefixes.{IsNoText}
 use Rattle.certificate.specs.SourceReading.{StopsGoingOn}
-use Rattle.cli.proofs.Kept.{all_known, known_file}
+use Rattle.certificate.specs.Text.{certificate_text}
+use Rattle.certificate.specs.Writability.{IsSomeTextOf}
+use Rattle.cli.proofs.Kept.{all_known}
 use Rattle.cli.specs.Checks.{AreKnown, AreTextsJudged, AreTextsRead, AreTextsReadUntil, IsCertificateJudged, IsCertificateRead, IsUnjudged, TextSources}
 use Rattle.cli.specs.declared.fault.CheckFault.{CheckFault}
 use Rattle.cli.specs.declared.fault.CheckFault.TheVariants.{Document, Memory, Io}
@@ -15,11 +21,44 @@ use Rattle.source_lines.specs.Sources.{FailsInReading, Gives, IsReadOn, IsReadTo
 read_on : (old new : SourceState) (taken : List ℕ) → Gives old new taken → new.failures ≡ old.failures → IsReadOn old new
 read_on old new taken given unfailed = record { lost = (taken, given.consumed, given.fell); unfailed = unfailed }
 
+-- a certificate of no lines, which lists nothing
+empty : Certificate
+empty = record { lines = []; listed = None }
+
+empty_text : List ℕ
+empty_text = certificate_text One empty
+
+empty_is : (o : Ontology) → IsSomeTextOf o empty_text empty
+unfolding empty_text
+empty_is o = (One, record { has_text = record { lines = []; listed = tt; premises = []; numbers = []; written = tt }; spelled = refl })
+
+-- not every text is that of none
+some_text : (o : Ontology) (t i taken : List ℕ) (at : ℕ) → taken ≡ [] → ((rest : List ℕ) → IsVerdictWith o t i (taken ++ rest) (Rejected (BadText at))) → ⊥
+some_text o t i taken at none is =
+    let P : List ℕ → Type 0 = λ front. IsNoText o (front ++ empty_text) at in
+    let bad : IsNoText o empty_text at = subst P none (is empty_text).verdict in
+    bad.none empty (empty_is o)
+
+-- so where it is that the text is that of none, whatever comes behind what the source gave, it gave something
+some_given : (o : Ontology) (t i taken : List ℕ) (v : Verdict) → IsBadText v → ((rest : List ℕ) → IsVerdictWith o t i (taken ++ rest) v) → ¬ (taken ≡ [])
+some_given o t i taken (Rejected (BadText at)) bad is none = some_text o t i taken at none is
+some_given o t i taken (Rejected (BadLine number)) bad is none = bad
+some_given o t i taken (Rejected (AxiomFails a)) bad is none = bad
+some_given o t i taken (Rejected (ClaimMissing c)) bad is none = bad
+some_given o t i taken (Rejected (ClaimDisagrees c)) bad is none = bad
+some_given o t i taken (Rejected (IndividualDisagrees a)) bad is none = bad
+some_given o t i taken (Rejected NoContradiction) bad is none = bad
+some_given o t i taken (Rejected (TaxonomyDiffers at)) bad is none = bad
+some_given o t i taken (Rejected (InstancesDiffer at)) bad is none = bad
+some_given o t i taken Accepted bad is none = bad
+
 -- what was read of a certificate on which there is a verdict
 certificate_read : (o : Ontology) (taxonomy instances : List ℕ) (old new : SourceState) (verdict : Verdict) → IsJudgedFrom o taxonomy instances old new verdict → IsCertificateRead verdict old new
 certificate_read o taxonomy instances old new verdict is =
-    let on = read_on old new is.taken is.given is.unfailed in
-    elim is.judged [ inl whole ↦ inl (record { on = on; end = whole.0 }) | inr bad ↦ inr (bad.0, on) ]
+    elim is.judged [
+      | inl whole ↦ inl (record { on = read_on old new is.taken is.given is.unfailed; end = whole.0 })
+      | inr bad ↦ inr (bad.0, record { taken = is.taken; some = some_given o taxonomy instances is.taken verdict bad.0 bad.1; given = is.given; unfailed = is.unfailed })
+    ]
 
 -- a source that stops the check failed
 certificate_failed : (o : Ontology) (old new : SourceState) → StopsGoingOn o old new → FailsInReading old new
@@ -40,13 +79,6 @@ certificate_judged o taxonomy instances old new verdict is =
           let all = with_rest old.left new.left is.taken is.given.consumed in
           record { certificate_text = is.taken ++ all.0; certificate_is = all.1; judged = bad.1 all.0 }
     ]
-
--- the verdict on a source of a file is one on the file
-pub file_judged : (o : Ontology) (taxonomy instances : List ℕ) (held : Option (List ℕ)) (old new : SourceState) (answer : Result Verdict CheckFault) → Keeps held old.left → IfOk answer (IsJudgedFrom o taxonomy instances old new) → IfOk answer (IsCertificateJudged o taxonomy instances held)
-file_judged o taxonomy instances held old new (Ok verdict) kept is =
-    let judged = certificate_judged o taxonomy instances old new verdict is in
-    record { certificate_text = judged.certificate_text; certificate_is = known_file held old.left judged.certificate_text kept judged.certificate_is; judged = judged.judged }
-file_judged o taxonomy instances held old new (Err fault) kept is = tt
 
 -- ---- the three texts
 

@@ -1,5 +1,5 @@
 -- What a conversion writes, and what its files hold then.
-use Rattle.std.proofs.Common.{◌≡◌, ℕ, List, [], Bool, true, false, Option, Some, None, Result, Ok, Err, OnOk, OnErr, IfErr, ap, refl, subst}
+use Rattle.std.proofs.Common.{◌≡◌, ◌∙◌, ◌+◌, ◌<◌, ℕ, List, [], Bool, true, false, Option, Some, None, Result, Ok, Err, OnOk, OnErr, IfErr, ap, refl, subst}
 use Rattle.std.specs.Prelude.{IsErrOf}
 use Rattle.std.specs.Io.KnownBytes.{Keeps}
 use Rattle.std.proofs.KnownBytes.{Keeps-refl}
@@ -9,25 +9,30 @@ use Rattle.cert_check.specs.Conversions.{IsBegun, IsConversion, IsConvertFault, 
 use Rattle.cert_check.specs.declared.conversion.ConvertFault.{ConvertFault}
 use Rattle.cert_check.specs.declared.conversion.ConvertFault.TheVariants.{BadText, Io, LaterPremise, Memory}
 use Rattle.certificate.specs.declared.format.Format.{Format}
+use Rattle.cli.proofs.Blamed.{IsCounted, some_failed}
+use Rattle.cli.proofs.Kept.{known_file, reads_file, refuses_file}
+use Rattle.cli.proofs.ReadFiles.{IsOfFiles, read_blamed, read_there, unreadable}
 use Rattle.cli.proofs.SomeTexts.{some, spelled}
-use Rattle.cli.proofs.Stored.{IsLeftBy, IsSome, sink_begins, sink_holds, stays}
+use Rattle.cli.proofs.Stored.{IsLeftBy, IsSome, sink_begins, sink_holds}
 use Rattle.cli.specs.Checks.{AreKnown, IsTextRead}
-use Rattle.cli.specs.Conversions.{Converts, IsConversionAnswer, IsUntaken, conversion_fault}
-use Rattle.cli.specs.Files.{AreBothThere, BlamesWrites, ConvertsFiles, IsTextUnread, NoWriteFails, Store}
+use Rattle.cli.specs.Conversions.{AreBothRead, Converts, IsConversionAnswer, IsUntaken, conversion_fault}
+use Rattle.cli.specs.Files.{BlamesWrites, ConvertsFiles, IsSourceOf, NoWriteFails, Store}
 use Rattle.cli.specs.HeldTexts.{Holds, HoldsPrefix, Stays}
-use Rattle.cli.specs.Runs.{AreOtherFilesKept, IsConversionMade, format_of}
+use Rattle.cli.specs.Runs.{AreOtherFilesKept, IsConversionMade, IsConvertAnswer, format_of}
 use Rattle.cli.specs.declared.fault.CheckFault.{CheckFault}
 use Rattle.cli.specs.declared.fault.CheckFault.TheVariants as checking
-use Rattle.cli.specs.declared.fault.ConversionFault.TheVariants.{Certificate}
+use Rattle.cli.specs.declared.fault.ConversionFault.{ConversionFault}
+use Rattle.cli.specs.declared.fault.ConversionFault.TheVariants.{Certificate, Document, Unread}
 use Rattle.command_line.specs.declared.tasks.Conversion.{Conversion}
 use Rattle.device.specs.Device.{HasFailed}
 use Rattle.profile.specs.Faults.{ReadsKnown}
 use Rattle.profile.specs.declared.fault.DocumentFault.{DocumentFault}
+use Rattle.profile.specs.declared.fault.DocumentFault.TheVariants as reading
 use Rattle.program.specs.declared.limits.Limits.{Limits}
 use Rattle.program.specs.declared.version.Version.{Version}
 use Rattle.session.specs.Devices.{Device, FailsIn, Takes}
 use Rattle.source_lines.specs.Sources.{SourceState}
-use Rattle.system_files.specs.Contents.{Content, IsThere, nothing_taken}
+use Rattle.system_files.specs.Contents.{Content, nothing_taken}
 
 -- ---- one call
 
@@ -98,32 +103,62 @@ unread_source X Y version most format document certificate Whole Begun Nothing o
 
 -- ---- conversions of files
 
-unread_document : (number : ℕ) (fails known : Bool) (held : Option (List ℕ)) (fault : CheckFault) → IsTextUnread number fails known held fault → (other : DocumentFault) → fault ≡ checking.Document other → ⊥
-unread_document number fails known held fault unread other same = let P : CheckFault → Type 0 = IsTextUnread number fails known held in subst P same unread
-
--- the file of the certificate is not read
-pub unread_made : {X : Type 0} (c : Conversion) (limits : Limits) (s : Store) (content : Content) (o : Ontology) (fault : CheckFault) → NoWriteFails s → ReadsKnown limits.version (content c.document.now) limits.max_bytes o → IsOntology o → IsThere s.is_known (content c.document.now) → IsTextUnread 2 s.reads_fail s.is_known (content c.certificate.now) fault → IsConversionMade {X = X} c limits s content content (Err (conversion_fault fault))
-unread_made {X = X} c limits s content o fault none reads well_formed there unread = record {
-  answered = unread_answer X limits.version limits.max_bytes (format_of c.format) _ _ (Holds s.is_known (content c.output.now)) (HoldsPrefix s.is_known (content c.output.now) (content c.output.now)) (Stays s.is_known (content c.output.now) (content c.output.now)) o fault reads well_formed (unread_document 2 s.reads_fail s.is_known _ fault unread) (stays s.is_known _ _ refl);
-  blames = blamed fault unread;
-  others = λ path other. refl;
+-- what is said of sources and of a sink is said of their files
+convert_answer : {X : Type 0} (c : Conversion) (limits : Limits) (known : Bool) (content content' : Content) (d e : Option (List ℕ)) (old new : Device) (answer : Result X ConversionFault) → Keeps (content c.document.now) d → Keeps (content c.certificate.now) e → old.0 ≡ nothing_taken known → IsLeftBy (content c.output.now) (content' c.output.now) new.0 → IsConversionAnswer limits.version limits.max_bytes (format_of c.format) d e (Takes old new) (FailsIn old new) (IsUntaken old new) answer → IsConvertAnswer c limits known content content' answer
+convert_answer {X} c limits known content content' d e old new (Ok x) kd ke fresh left is = record {
+  ontology = is.ontology;
+  reads = reads_file limits.version (content c.document.now) d limits.max_bytes is.ontology kd is.reads;
+  well_formed = is.well_formed;
+  text = is.text;
+  text_is = known_file (content c.certificate.now) e is.text ke is.text_is;
+  related = converts_file known is.ontology is.text (format_of c.format) old new (content c.output.now) (content' c.output.now) (Ok x) fresh left is.related;
 }
-  where
-    blamed : (fault : CheckFault) → IsTextUnread 2 s.reads_fail s.is_known (content c.certificate.now) fault → ConvertsFiles {X = X} s content c (Err (conversion_fault fault))
-    blamed (checking.Document other) unread = absurd unread
-    blamed checking.Memory unread = (there, none)
-    blamed (checking.Io n) unread = (there, unread.1, none)
-
--- the certificate is read, and not converted
-pub unconverted_made : {X : Type 0} (c : Conversion) (limits : Limits) (s : Store) (content content' : Content) (o : Ontology) (text : List ℕ) (fault : ConvertFault) → ReadsKnown limits.version (content c.document.now) limits.max_bytes o → IsOntology o → AreBothThere s.is_known content c → AreKnown (content c.certificate.now) text → Converts {X = X} o (format_of c.format) (Holds s.is_known (content' c.output.now)) (HoldsPrefix s.is_known (content c.output.now) (content' c.output.now)) (Stays s.is_known (content c.output.now) (content' c.output.now)) text (Err fault) → BlamesWrites s fault → AreOtherFilesKept c.output.now content content' → IsConversionMade {X = X} c limits s content content' (Err (Certificate fault))
-unconverted_made {X = X} c limits s content content' o text fault reads well_formed there known is writes others = record {
-  answered = record { ontology = o; reads = reads; well_formed = well_formed; text = text; text_is = known; related = is };
-  blames = blamed fault writes;
-  others = others;
+convert_answer {X} c limits known content content' d e old new (Err (Certificate fault)) kd ke fresh left is = record {
+  ontology = is.ontology;
+  reads = reads_file limits.version (content c.document.now) d limits.max_bytes is.ontology kd is.reads;
+  well_formed = is.well_formed;
+  text = is.text;
+  text_is = known_file (content c.certificate.now) e is.text ke is.text_is;
+  related = converts_file {X = X} known is.ontology is.text (format_of c.format) old new (content c.output.now) (content' c.output.now) (Err fault) fresh left is.related;
 }
-  where
-    blamed : (fault : ConvertFault) → BlamesWrites s fault → ConvertsFiles {X = X} s content c (Err (Certificate fault))
-    blamed (BadText at) writes = (there, writes)
-    blamed (LaterPremise line) writes = (there, writes)
-    blamed Io writes = (there, writes)
-    blamed Memory writes = (there.0, writes)
+convert_answer c limits known content content' d e old new (Err (Document fault)) kd ke fresh left is =
+    (refuses_file limits.version (content c.document.now) d limits.max_bytes fault kd is.0, untaken_stays known old new (content c.output.now) (content' c.output.now) fresh is.1 left)
+convert_answer c limits known content content' d e old new (Err Unread) kd ke fresh left is =
+    ((is.0.0, reads_file limits.version (content c.document.now) d limits.max_bytes is.0.0 kd is.0.1), untaken_stays known old new (content c.output.now) (content' c.output.now) fresh is.1 left)
+
+-- how many writes had failed, where the sink failed or did not
+not_counted : (s : Store) (old new : Device) → old.1 ≡ 0 → IsCounted s.failed_before s.failed_behind new.1 → new.1 ≡ old.1 → NoWriteFails s
+not_counted s old new none counted same = counted.unfailed (same ∙ none)
+
+fault_counted : {X : Type 0} (s : Store) (o : Ontology) (format : Format) (old new : Device) (text : List ℕ) (fault : ConvertFault) → old.1 ≡ 0 → IsCounted s.failed_before s.failed_behind new.1 → Converts {X = X} o format (Takes old new) (FailsIn old new) (IsUntaken old new) text (Err fault) → BlamesWrites s fault
+fault_counted s o format old new text (BadText at) none counted is = not_counted s old new none counted is.1.1
+fault_counted s o format old new text (LaterPremise line) none counted is = not_counted s old new none counted is.1.1
+fault_counted s o format old new text Memory none counted is = not_counted s old new none counted is.1.1
+fault_counted s o format old new text Io none counted is = counted.failed (some_failed old new is.0 none is.2)
+
+-- which files are there, and which device is to blame
+converts_files : {X : Type 0} (c : Conversion) (limits : Limits) (s : Store) (content : Content) (before after : SourceState × SourceState) (old new : Device) (answer : Result X ConversionFault) → IsSourceOf s.is_known (content c.document.now) before.0 → IsSourceOf s.is_known (content c.certificate.now) before.1 → IsOfFiles s.reads_fail s.is_known after.0 → IsOfFiles s.reads_fail s.is_known after.1 → old.1 ≡ 0 → IsCounted s.failed_before s.failed_behind new.1 → IsConversionAnswer limits.version limits.max_bytes (format_of c.format) before.0.left before.1.left (Takes old new) (FailsIn old new) (IsUntaken old new) answer → AreBothRead answer before after → (IsErrOf answer (Document reading.TooLarge) → after.0.most + limits.max_bytes < before.0.most) → ConvertsFiles s content c answer
+converts_files c limits s content before after old new (Ok x) document certificate of of' none counted is read beyond =
+    ((read_there s.is_known _ before.0 after.0 document read.0, read_there s.is_known _ before.1 after.1 certificate read.1), not_counted s old new none counted is.related.2.1)
+converts_files c limits s content before after old new (Err (Document fault)) document certificate of of' none counted is read beyond =
+    (read_blamed s.reads_fail s.is_known _ fault limits.max_bytes before.0 after.0 document of read.0 (λ same. beyond (ap Document same)), not_counted s old new none counted is.1.1)
+converts_files c limits s content before after old new (Err Unread) document certificate of of' none counted is read beyond =
+    (read_there s.is_known _ before.0 after.0 document read.0, unreadable s.reads_fail s.is_known _ before.1 after.1 certificate of' read.1, not_counted s old new none counted is.1.1)
+converts_files {X} c limits s content before after old new (Err (Certificate Memory)) document certificate of of' none counted is read beyond =
+    (read_there s.is_known _ before.0 after.0 document read.0, fault_counted {X = X} s is.ontology (format_of c.format) old new is.text Memory none counted is.related)
+converts_files {X} c limits s content before after old new (Err (Certificate Io)) document certificate of of' none counted is read beyond =
+    ((read_there s.is_known _ before.0 after.0 document read.0, read_there s.is_known _ before.1 after.1 certificate read.1), fault_counted {X = X} s is.ontology (format_of c.format) old new is.text Io none counted is.related)
+converts_files {X} c limits s content before after old new (Err (Certificate (BadText at))) document certificate of of' none counted is read beyond =
+    ((read_there s.is_known _ before.0 after.0 document read.0, read_there s.is_known _ before.1 after.1 certificate read.1), fault_counted {X = X} s is.ontology (format_of c.format) old new is.text (BadText at) none counted is.related)
+converts_files {X} c limits s content before after old new (Err (Certificate (LaterPremise line))) document certificate of of' none counted is read beyond =
+    ((read_there s.is_known _ before.0 after.0 document read.0, read_there s.is_known _ before.1 after.1 certificate read.1), fault_counted {X = X} s is.ontology (format_of c.format) old new is.text (LaterPremise line) none counted is.related)
+
+pub conversion_made : {X : Type 0} (c : Conversion) (limits : Limits) (s : Store) (content content' : Content) (format : Format) (before after : SourceState × SourceState) (old new : Device) (answer : Result X ConversionFault) → format ≡ format_of c.format → IsSourceOf s.is_known (content c.document.now) before.0 → IsSourceOf s.is_known (content c.certificate.now) before.1 → IsOfFiles s.reads_fail s.is_known after.0 → IsOfFiles s.reads_fail s.is_known after.1 → old.0 ≡ nothing_taken s.is_known → old.1 ≡ 0 → IsLeftBy (content c.output.now) (content' c.output.now) new.0 → IsCounted s.failed_before s.failed_behind new.1 → AreOtherFilesKept c.output.now content content' → IsConversionAnswer limits.version limits.max_bytes format before.0.left before.1.left (Takes old new) (FailsIn old new) (IsUntaken old new) answer → AreBothRead answer before after → (IsErrOf answer (Document reading.TooLarge) → after.0.most + limits.max_bytes < before.0.most) → IsConversionMade c limits s content content' answer
+conversion_made c limits s content content' format before after old new answer same document certificate of of' fresh none left counted others is read beyond =
+    let P : Format → Type 0 = λ f. IsConversionAnswer limits.version limits.max_bytes f before.0.left before.1.left (Takes old new) (FailsIn old new) (IsUntaken old new) answer in
+    let there = subst P same is in
+    record {
+      answered = convert_answer c limits s.is_known content content' before.0.left before.1.left old new answer document.left certificate.left fresh left there;
+      blames = converts_files c limits s content before after old new answer document certificate of of' none counted there read beyond;
+      others = others;
+    }

@@ -1,4 +1,4 @@
--- What a run of `classify` leaves in files is accepted by a run of `check`.
+-- What a run of `classify` leaves in files is accepted by a run of `check`; and which runs words ask for.
 use Rattle.std.proofs.Common.{◌≡◌, ◌∙◌, ℕ, List, Bool, Option, Result, Ok, Err, Some, true, false, codes, refl, sym, ap, subst, inl, inr, arith, ◌+◌}
 use Rattle.lemmas.proofs.Choices.{one_value}
 use Rattle.cert_check.specs.declared.verdict.Verdict.{Verdict}
@@ -8,26 +8,28 @@ use Rattle.certificate.specs.declared.format.Format.{Format}
 use Rattle.clap.specs.Words.{Row, Text, takes}
 use Rattle.command_line.proofs.NoTask.{one_letter}
 use Rattle.command_line.proofs.Numbers.{one_number}
-use Rattle.command_line.specs.CommandLine.{AreLimits, ArePaths, IsCommand, IsTaskOf, IsFlag, IsTelling, IsVersion, Refuses, elc_app, tells_progress, version_number}
+use Rattle.command_line.specs.CommandLine.{AreLimits, ArePaths, IsCommand, IsFormat, IsLimitOfFacts, IsTaskOf, IsFlag, IsTelling, IsVersion, Refuses, draws_facts, elc_app, format_number, tells_progress, version_number}
 use Rattle.command_line.specs.declared.tasks.Command.{Command}
 use Rattle.command_line.specs.declared.tasks.Command.TheVariants.{Check, Classify, Convert, Explain, Instances, Query, Session}
 use Rattle.command_line.specs.declared.tasks.FormatNumber.{FormatNumber}
+use Rattle.command_line.specs.declared.tasks.FormatNumber.TheVariants as numbers
 use Rattle.command_line.specs.declared.tasks.LineFault.{LineFault}
 use Rattle.command_line.specs.declared.tasks.LineFault.TheVariants as line
 use Rattle.command_line.specs.declared.tasks.Paths.{Paths}
 use Rattle.command_line.specs.declared.tasks.Task.{Task}
+use Rattle.cli.specs.declared.checking.Checked.{Checked}
 use Rattle.cli.specs.declared.fault.CheckFault.{CheckFault}
 use Rattle.cli.specs.declared.fault.CheckFault.TheVariants as checking
 use Rattle.cli.proofs.WrittenAccepted.{written_is_accepted}
 use Rattle.cli.specs.Checks.{IsChecked, IsCheckFault}
 use Rattle.session.specs.Devices.{Device}
 use Rattle.cli.specs.HeldTexts.{AreApart, HoldTexts}
-use Rattle.cli.specs.Runs.{IsCheckRun, IsCheckTold, IsCheckedFiles, IsClassifyAnswer, IsClassifyRun, IsClassifyTold, IsCommandRun, IsPerformed, format_of}
+use Rattle.cli.specs.Runs.{IsCheckRun, IsCheckTold, IsCheckedFiles, IsClassifyAnswer, IsClassifyRun, IsClassifyTold, IsCommandRun, format_of}
 use Rattle.cli.specs.Files.{Store}
-use Rattle.cli.proofs.Telling.{nothing_told}
 use Rattle.session.specs.Progress.{IsProgress}
 use Rattle.cli.specs.Messages.{Output, IsAnswered, IsLineTold, IsPrinted, IsTold, classify_status, out_of_memory, verdict_status, verdict_text}
 use Rattle.cli.specs.Theorems.{AreSamePaths, IsAcceptedRun, IsDocumentApart, WrittenFilesAreAccepted}
+use Rattle.cli.specs.WordsOfRuns.{AreSameLimits, WordsOfCheckCheck, WordsOfClassifyClassify}
 use Rattle.session.specs.Classifications.{IsClassified}
 use Rattle.session.specs.WrittenTexts.{Texts}
 use Rattle.cli.specs.declared.fault.ClassifyFault.{ClassifyFault}
@@ -46,7 +48,7 @@ use Rattle.system_files.specs.Contents.{Content}
 
 -- ---- a fault has another status than 0
 
-document_not_done : (fault : DocumentFault) → code_of statuses.Done ≡ code_of (status_of fault) → ⊥
+pub document_not_done : (fault : DocumentFault) → code_of statuses.Done ≡ code_of (status_of fault) → ⊥
 document_not_done (reading.NotUtf8 at) e = cc
 document_not_done reading.TooLarge e = cc
 document_not_done reading.Io e = cc
@@ -62,18 +64,18 @@ fault_not_done classifying.Memory e = cc
 fault_not_done classifying.Limit e = cc
 fault_not_done (classifying.Io n) e = cc
 
-printed_not_done : (old new : Device) (text : List ℕ) (status : Status) → (code_of statuses.Done ≡ code_of status → ⊥) → IsPrinted old new text status (code_of statuses.Done) → ⊥
+pub printed_not_done : (old new : Device) (text : List ℕ) (status : Status) → (code_of statuses.Done ≡ code_of status → ⊥) → IsPrinted old new text status (code_of statuses.Done) → ⊥
 printed_not_done old new text status other (inl whole) = other whole.1
 printed_not_done old new text status other (inr failed) = let e = failed.1 in cc
 
-told_not_done : (old new : Device) (IsText : List ℕ → Type 0) (status : Status) → (code_of statuses.Done ≡ code_of status → ⊥) → IsTold old new IsText status (code_of statuses.Done) → ⊥
+pub told_not_done : (old new : Device) (IsText : List ℕ → Type 0) (status : Status) → (code_of statuses.Done ≡ code_of status → ⊥) → IsTold old new IsText status (code_of statuses.Done) → ⊥
 told_not_done old new IsText status other (inl told) = printed_not_done old new told.0 status other told.2
 told_not_done old new IsText status other (inr told) = printed_not_done old new out_of_memory statuses.Memory (λ e. cc) told
 
 -- ---- the check of what was written
 
 -- a check of four texts in files is one of the texts that they hold
-checked_texts : (version : Version) (most : ℕ) (content : Content) (paths : Paths) (bytes : List ℕ) (texts : Texts) (o : Ontology) (verdict : Verdict) → content paths.document.now ≡ Some bytes → content paths.taxonomy.now ≡ Some texts.taxonomy → content paths.instances.now ≡ Some texts.instances → content paths.certificate.now ≡ Some texts.certificate → IsChecked version most (content paths.document.now) (content paths.taxonomy.now) (content paths.instances.now) (content paths.certificate.now) o verdict → IsChecked version most (Some bytes) (Some texts.taxonomy) (Some texts.instances) (Some texts.certificate) o verdict
+pub checked_texts : (version : Version) (most : ℕ) (content : Content) (paths : Paths) (bytes : List ℕ) (texts : Texts) (o : Ontology) (verdict : Verdict) → content paths.document.now ≡ Some bytes → content paths.taxonomy.now ≡ Some texts.taxonomy → content paths.instances.now ≡ Some texts.instances → content paths.certificate.now ≡ Some texts.certificate → IsChecked version most (content paths.document.now) (content paths.taxonomy.now) (content paths.instances.now) (content paths.certificate.now) o verdict → IsChecked version most (Some bytes) (Some texts.taxonomy) (Some texts.instances) (Some texts.certificate) o verdict
 checked_texts version most content paths bytes texts o verdict document taxonomy instances certificate checked =
     let of_document : Option (List ℕ) → Type 0 = λ d. IsChecked version most d (content paths.taxonomy.now) (content paths.instances.now) (content paths.certificate.now) o verdict in
     let of_taxonomy : Option (List ℕ) → Type 0 = λ t. IsChecked version most (Some bytes) t (content paths.instances.now) (content paths.certificate.now) o verdict in
@@ -82,13 +84,11 @@ checked_texts version most content paths bytes texts o verdict document taxonomy
     subst of_certificate certificate (subst of_instances instances (subst of_taxonomy taxonomy (subst of_document document checked)))
 
 -- texts that were written are accepted in files that hold them, unless the check is stopped
-check_accepted : (paths : Paths) (written version : Version) (format : Format) (facts bytes most : ℕ) (content : Content) (old new : Output) (status : ℕ) (document : List ℕ) (texts : Texts) (summary : Summary) (answer : Result (Ontology × Verdict) CheckFault) → IsClassified written format bytes facts (Some document) summary texts → content paths.document.now ≡ Some document → content paths.taxonomy.now ≡ Some texts.taxonomy → content paths.instances.now ≡ Some texts.instances → content paths.certificate.now ≡ Some texts.certificate → IsCheckedFiles paths version most content answer → IsCheckTold paths most answer old new status → IsAcceptedRun version most document old new status
-check_accepted paths written version format facts bytes most content old new status document texts summary (Ok p) classified holds taxonomy instances certificate is told =
-    let o = p.0 in
-    let verdict = p.1 in
-    let checked = checked_texts version most content paths document texts o verdict holds taxonomy instances certificate is in
-    let accepted : verdict ≡ Accepted = written_is_accepted written version format bytes most facts document texts summary (Ok verdict) classified (o, checked) in
-    let P : Verdict → Type 0 = λ v. IsAnswered old new (verdict_text o v) (verdict_status v) status in
+check_accepted : (paths : Paths) (written version : Version) (format : Format) (facts bytes most : ℕ) (content : Content) (old new : Output) (status : ℕ) (document : List ℕ) (texts : Texts) (summary : Summary) (answer : Result Checked CheckFault) → IsClassified written format bytes facts (Some document) summary texts → content paths.document.now ≡ Some document → content paths.taxonomy.now ≡ Some texts.taxonomy → content paths.instances.now ≡ Some texts.instances → content paths.certificate.now ≡ Some texts.certificate → IsCheckedFiles paths version most content answer → IsCheckTold paths most answer old new status → IsAcceptedRun version most document old new status
+check_accepted paths written version format facts bytes most content old new status document texts summary (Ok answer) classified holds taxonomy instances certificate is told =
+    let checked = checked_texts version most content paths document texts answer.ontology answer.verdict holds taxonomy instances certificate is in
+    let accepted : answer.verdict ≡ Accepted = written_is_accepted written version format bytes most facts document texts summary (Ok answer) classified checked in
+    let P : Verdict → Type 0 = λ v. IsAnswered old new (verdict_text answer.ontology v) (verdict_status v) status in
     inl (subst P accepted told)
 check_accepted paths written version format facts bytes most content old new status document texts summary (Err fault) classified holds taxonomy instances certificate is told =
     let P : Option (List ℕ) → Type 0 = λ d. IsCheckFault version most d fault in
@@ -112,6 +112,10 @@ runs_accepted written checked format limits version most s s' content content' o
     check_accepted checked limits.version version format limits.max_facts limits.max_bytes most content' old' new' status document texts summary check.answer (subst P holds made.2)
     (ap content' (sym same.document) ∙ kept ∙ holds) (ap content' (sym same.taxonomy) ∙ made.3.taxonomy) (ap content' (sym same.instances) ∙ made.3.instances) (ap content' (sym same.certificate) ∙ made.3.certificate) check.checked check.told
 
+pub runs_are_accepted : WrittenFilesAreAccepted
+runs_are_accepted paths paths' format limits version most s s' content content' old new old' new' status document same apart document_apart known holds run check =
+    runs_accepted paths paths' format limits version most s s' content content' old new old' new' status document known same apart document_apart holds run check
+
 -- ---- the words ask for one task
 
 -- paths that the same rows name are the same
@@ -123,9 +127,19 @@ same_paths rows p q a b = record {
   certificate = one_value _ _ _ a.certificate b.certificate;
 }
 
+same_format : (v w : FormatNumber) → format_number v ≡ format_number w → v ≡ w
+same_format numbers.One numbers.One e = refl
+same_format numbers.Two numbers.Two e = refl
+same_format numbers.One numbers.Two e = let bad : 1 ≡ 2 = e in absurd (cc)
+same_format numbers.Two numbers.One e = let bad : 2 ≡ 1 = e in absurd (cc)
+
+-- an option has one format
+one_format : (rows : List Row) (v w : FormatNumber) → IsFormat rows v → IsFormat rows w → v ≡ w
+one_format rows v w h k = same_format v w (one_number _ _ _ _ h k)
+
 -- what a run of a command says that the words of `classify` ask for
-classify_run : (told : Bool) (name : Text) (rows : List Row) (paths : Paths) (number : FormatNumber) (command : Command) (limits : Limits) (s : Store) (content content' : Content) (old new : Output) (status : ℕ) → IsCommand name rows (Classify paths number) → IsCommand name rows command → IsCommandRun told command limits s content content' old new status → (paths' : Paths) × (format : Format) × AreSamePaths paths paths' × IsClassifyRun paths' format limits s content content' old new status
-classify_run told name rows paths number (Classify paths' number') limits s content content' old new status is is' run = (paths', format_of number', same_paths rows paths paths' is.1 is'.1, run)
+classify_run : (told : Bool) (name : Text) (rows : List Row) (paths : Paths) (number : FormatNumber) (command : Command) (limits : Limits) (s : Store) (content content' : Content) (old new : Output) (status : ℕ) → IsCommand name rows (Classify paths number) → IsCommand name rows command → IsCommandRun told command limits s content content' old new status → (paths' : Paths) × (format : Format) × AreSamePaths paths paths' × IsClassifyRun paths' format limits s content content' old new status × (format ≡ format_of number)
+classify_run told name rows paths number (Classify paths' number') limits s content content' old new status is is' run = (paths', format_of number', same_paths rows paths paths' is.1 is'.1, run, ap format_of (one_format rows number' number is'.2 is.2))
 classify_run told name rows paths number (Check paths') limits s content content' old new status is is' run = let bad : 108 ≡ 104 = one_letter name rows (Classify paths number) (Check paths') is is' in absurd (cc)
 classify_run told name rows paths number (Convert conversion) limits s content content' old new status is is' run = let bad : 108 ≡ 111 = one_letter name rows (Classify paths number) (Convert conversion) is is' in absurd (cc)
 classify_run told name rows paths number (Instances document class) limits s content content' old new status is is' run = let bad : 108 ≡ 110 = one_letter name rows (Classify paths number) (Instances document class) is is' in absurd (cc)
@@ -180,30 +194,15 @@ named words task other command of is same =
     let Q : Command → Type 0 = λ k. IsNamed is.name is.rows k task in
     subst P (one_value _ _ _ is.found of.found) (subst Q same (record { is = is.is.command; limits = is.is.limits; progress = is.is.progress }))
 
--- ---- two runs of the program
+-- ---- the run that the words ask for
 
 -- words that are refused end with another status than 0
-line_not_done : (fault : LineFault) (old new : Device) → IsLineTold fault old new (code_of statuses.Done) → ⊥
+pub line_not_done : (fault : LineFault) (old new : Device) → IsLineTold fault old new (code_of statuses.Done) → ⊥
 line_not_done (line.Line error) old new h = told_not_done old new _ statuses.Usage (λ e. cc) h
 line_not_done line.Memory old new h = told_not_done old new _ statuses.Memory (λ e. cc) h
 
--- the run of a classification that the words ask for
-record IsClassifiedBy (paths : Paths) (s : Store) (content content' : Content) (old new : Output) : Type 0 where
-  paths' : Paths
-  format : Format
-  limits : Limits
-  same : AreSamePaths paths paths'
-  begun : Output
-  run : IsClassifyRun paths' format limits s content content' begun new (code_of statuses.Done)
-
-classified : (words : List Text) (task : Task) (paths : Paths) (number : FormatNumber) (s : Store) (content content' : Content) (old new : Output) → IsTaskOf words task → task.command ≡ Classify paths number → IsPerformed words s content content' old new (code_of statuses.Done) → IsClassifiedBy paths s content content' old new
-classified words task paths number s content content' old new of is (inl run) =
-    let made = classify_run run.0.progress _ _ paths number run.0.command run.0.limits s content content' run.2.begun new (code_of statuses.Done) (named words task run.0 (Classify paths number) run.1 of is).is run.1.is.command run.2.holds in
-    record { paths' = made.0; format = made.1; limits = run.0.limits; same = made.2; begun = run.2.begun; run = made.3 }
-classified words task paths number s content content' old new of is (inr run) = absurd (line_not_done run.0 old.err new.err run.3)
-
 -- the run of a check that the words ask for
-checked : (words : List Text) (task other : Task) (paths : Paths) (s : Store) (content content' : Content) (old new : Output) (status : ℕ) → IsTaskOf words task → task.command ≡ Check paths → IsTaskOf words other → IsCommandRun other.progress other.command other.limits s content content' old new status → (paths' : Paths) × AreSamePaths paths paths' × IsCheckRun paths' task.limits.version task.limits.max_bytes s content old new status × (other.progress ≡ task.progress)
+pub checked : (words : List Text) (task other : Task) (paths : Paths) (s : Store) (content content' : Content) (old new : Output) (status : ℕ) → IsTaskOf words task → task.command ≡ Check paths → IsTaskOf words other → IsCommandRun other.progress other.command other.limits s content content' old new status → (paths' : Paths) × AreSamePaths paths paths' × IsCheckRun paths' task.limits.version task.limits.max_bytes s content old new status × (other.progress ≡ task.progress)
 checked words task other paths s content content' old new status of is of' run =
     let here = named words task other (Check paths) of' of is in
     let made = check_run other.progress _ _ paths other.command other.limits s content content' old new status here.is of'.is.command run in
@@ -212,47 +211,58 @@ checked words task other paths s content content' old new status of is of' run =
     let R : Bool → Type 0 = λ tells. IsTelling tells of'.rows other.progress in
     (made.0, made.1, subst Q (one_version _ _ _ of'.is.limits.version here.limits.version) (subst P (one_number _ _ _ _ of'.is.limits.bytes.number here.limits.bytes.number) made.2), one_flag (codes "progress") of'.rows other.progress task.progress (subst R made.3 of'.is.progress) here.progress)
 
--- words that clap takes are refused only for want of memory
-refused_check : (words : List Text) (task : Task) (paths : Paths) (version : Version) (most : ℕ) (fault : LineFault) (document : List ℕ) (old new : Output) (status : ℕ) → IsTaskOf words task → takes elc_app words ≡ true → Refuses words fault → new.out ≡ old.out → IsLineTold fault old.err new.err status → IsAcceptedRun version most document old new status
-refused_check words task paths version most (line.Line error) document old new status of taken refuses same told = absurd (refuses taken task of)
-refused_check words task paths version most line.Memory document old new status of taken refuses same told = inr (paths, checking.Memory, tt, same, told)
+-- words that clap takes are refused only for want of memory, which is told
+refused_told : (words : List Text) (task : Task) (fault : LineFault) (old new : Device) (status : ℕ) → IsTaskOf words task → takes elc_app words ≡ true → Refuses words fault → IsLineTold fault old new status → IsLineTold line.Memory old new status
+refused_told words task (line.Line error) old new status of taken refuses told = absurd (refuses taken task of)
+refused_told words task line.Memory old new status of taken refuses told = told
 
--- what the same paths hold apart from one another
-apart_too : (p q : Paths) → AreSamePaths p q → AreApart p → AreApart q
-apart_too p q same apart = record {
-  taxonomy_instances = λ e. apart.taxonomy_instances (same.taxonomy ∙ e ∙ sym same.instances);
-  taxonomy_certificate = λ e. apart.taxonomy_certificate (same.taxonomy ∙ e ∙ sym same.certificate);
-  instances_certificate = λ e. apart.instances_certificate (same.instances ∙ e ∙ sym same.certificate);
-}
+pub words_check : WordsOfCheckCheck
+words_check words task paths s content content' old new status of is taken (inl run) =
+    let behind = run.2 in
+    let k = checked words task run.0 paths s content content' behind.begun new status of is run.1 behind.holds in
+    let Q : Bool → Type 0 = λ told. IsProgress told old.err behind.begun.err in
+    inl (record { begun = behind.begun; unprinted = behind.unprinted; progress = subst Q k.3 behind.progress; holds = (k.0, k.1, k.2) })
+words_check words task paths s content content' old new status of is taken (inr run) = inr (run.2, refused_told words task run.0 old.err new.err status of taken run.1 run.3)
 
-document_apart_too : (p q : Paths) → AreSamePaths p q → IsDocumentApart p → IsDocumentApart q
-document_apart_too p q same apart = record {
-  taxonomy = λ e. apart.taxonomy (same.document ∙ e ∙ sym same.taxonomy);
-  instances = λ e. apart.instances (same.document ∙ e ∙ sym same.instances);
-  certificate = λ e. apart.certificate (same.document ∙ e ∙ sym same.certificate);
-}
+-- a flag that a classification has
+classify_telling : (told : Bool) (name : Text) (rows : List Row) (paths : Paths) (number : FormatNumber) (command : Command) → IsCommand name rows (Classify paths number) → IsCommand name rows command → tells_progress command ≡ true
+classify_telling told name rows paths number (Classify paths' number') is is' = refl
+classify_telling told name rows paths number (Check paths') is is' = refl
+classify_telling told name rows paths number (Session document) is is' = refl
+classify_telling told name rows paths number (Convert conversion) is is' = let bad : 108 ≡ 111 = one_letter name rows (Classify paths number) (Convert conversion) is is' in absurd (cc)
+classify_telling told name rows paths number (Instances document class) is is' = let bad : 108 ≡ 110 = one_letter name rows (Classify paths number) (Instances document class) is is' in absurd (cc)
+classify_telling told name rows paths number (Explain question) is is' = let bad : 108 ≡ 120 = one_letter name rows (Classify paths number) (Explain question) is is' in absurd (cc)
+classify_telling told name rows paths number (Query document expression) is is' = let bad : 108 ≡ 117 = one_letter name rows (Classify paths number) (Query document expression) is is' in absurd (cc)
 
-both : (p q r s : Paths) → AreSamePaths p q → AreSamePaths p r → AreSamePaths q s → AreSamePaths r s
-both p q r s a b d = record {
-  document = sym b.document ∙ a.document ∙ d.document;
-  taxonomy = sym b.taxonomy ∙ a.taxonomy ∙ d.taxonomy;
-  instances = sym b.instances ∙ a.instances ∙ d.instances;
-  certificate = sym b.certificate ∙ a.certificate ∙ d.certificate;
-}
+-- a limit that a classification has
+classify_draws : (told : Bool) (name : Text) (rows : List Row) (paths : Paths) (number : FormatNumber) (command : Command) → IsCommand name rows (Classify paths number) → IsCommand name rows command → draws_facts command ≡ true
+classify_draws told name rows paths number (Classify paths' number') is is' = refl
+classify_draws told name rows paths number (Check paths') is is' = let bad : 108 ≡ 104 = one_letter name rows (Classify paths number) (Check paths') is is' in absurd (cc)
+classify_draws told name rows paths number (Session document) is is' = refl
+classify_draws told name rows paths number (Convert conversion) is is' = let bad : 108 ≡ 111 = one_letter name rows (Classify paths number) (Convert conversion) is is' in absurd (cc)
+classify_draws told name rows paths number (Instances document class) is is' = let bad : 108 ≡ 110 = one_letter name rows (Classify paths number) (Instances document class) is is' in absurd (cc)
+classify_draws told name rows paths number (Explain question) is is' = let bad : 108 ≡ 120 = one_letter name rows (Classify paths number) (Explain question) is is' in absurd (cc)
+classify_draws told name rows paths number (Query document expression) is is' = let bad : 108 ≡ 117 = one_letter name rows (Classify paths number) (Query document expression) is is' in absurd (cc)
 
-pub files_are_accepted : WrittenFilesAreAccepted
-files_are_accepted words words' task task' paths paths' number s s' content content' content'' old new old' new' status document of is of' is' taken same apart document_apart known holds first (inl second) =
-    let c = classified words task paths number s content content' old new of is first in
-    let behind = second.2 in
-    let begun = behind.begun in
-    let k = checked words' task' second.0 paths' s' content' content'' begun new' status of' is' second.1 behind.holds in
-    let Q : Bool → Type 0 = λ told. IsProgress told old'.err begun.err in
-    let P : List ℕ → Type 0 = λ path. content path ≡ Some document in
-    record {
-      begun = begun;
-      unprinted = behind.unprinted;
-      progress = subst Q k.3 behind.progress;
-      holds = runs_accepted c.paths' k.0 c.format c.limits task'.limits.version task'.limits.max_bytes s s' content content' c.begun new begun new' status document known (both paths paths' c.paths' k.0 same c.same k.1) (apart_too paths c.paths' c.same apart) (document_apart_too paths c.paths' c.same document_apart) (subst P c.same.document holds) c.run k.2;
-    }
-files_are_accepted words words' task task' paths paths' number s s' content content' content'' old new old' new' status document of is of' is' taken same apart document_apart known holds first (inr second) =
-    nothing_told task'.progress old' _ (refused_check words' task' paths' task'.limits.version task'.limits.max_bytes second.0 document old' new' status of' taken second.1 second.2 second.3)
+pub words_classify : WordsOfClassifyClassify
+words_classify words task paths number s content content' old new status of is taken (inl run) =
+    let behind = run.2 in
+    let other = run.0 in
+    let of' = run.1 in
+    let here = named words task other (Classify paths number) of' of is in
+    let made = classify_run other.progress of'.name of'.rows paths number other.command other.limits s content content' behind.begun new status here.is of'.is.command behind.holds in
+    let R : Bool → Type 0 = λ tells. IsTelling tells of'.rows other.progress in
+    let tells : tells_progress other.command ≡ true = classify_telling true of'.name of'.rows paths number other.command here.is of'.is.command in
+    let same : other.progress ≡ task.progress = one_flag (codes "progress") of'.rows other.progress task.progress (subst R tells of'.is.progress) here.progress in
+    let Q : Bool → Type 0 = λ told. IsProgress told old.err behind.begun.err in
+    let U : Bool → Type 0 = λ draws. IsLimitOfFacts draws of'.rows other.limits.max_facts in
+    let draws : draws_facts other.command ≡ true = classify_draws true of'.name of'.rows paths number other.command here.is of'.is.command in
+    let facts = subst U draws of'.is.limits.facts in
+    let same_limits : AreSameLimits other.limits task.limits = record {
+      bytes = one_number _ _ _ _ of'.is.limits.bytes.number here.limits.bytes.number;
+      facts = one_number _ _ _ _ facts.number here.limits.facts.number;
+      version = one_version _ _ _ of'.is.limits.version here.limits.version;
+    } in
+    let T : Format → Type 0 = λ format. IsClassifyRun made.0 format other.limits s content content' behind.begun new status in
+    inl (record { begun = behind.begun; unprinted = behind.unprinted; progress = subst Q same behind.progress; holds = (made.0, other.limits, made.2, same_limits, subst T made.4 made.3) })
+words_classify words task paths number s content content' old new status of is taken (inr run) = inr (run.2, refused_told words task run.0 old.err new.err status of taken run.1 run.3)

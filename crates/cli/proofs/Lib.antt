@@ -3,6 +3,8 @@ pub mod Certificates
 pub mod Questions
 pub mod Telling
 pub mod Pieces
+pub mod ReadFiles
+pub mod CheckedFiles
 pub mod Blamed
 pub mod Stored
 pub mod SomeTexts
@@ -13,3 +15,4 @@ pub mod WrittenAccepted
 pub mod FilesAccepted
 pub mod EveryDocument
 pub mod AcceptedRight
+pub mod FilesRight

@@ -36,11 +36,9 @@ stops version most bytes reading.TooManyNames refuses = bytes_read_as_none versi
 stops version most bytes reading.Memory refuses = tt
 
 pub written_is_accepted : WhatIsWrittenIsAccepted
-written_is_accepted written checked format most_written most facts bytes texts summary (Ok verdict) w k =
-    let o = k.0 in
-    let there = k.1 in
-    there.accepted.1 (acceptable_there w.ontology o texts.taxonomy texts.instances texts.certificate there.taxonomy_text there.instances_text there.certificate_text
-    (one_ontology written checked bytes w.ontology o w.reads.0 there.reads.0) there.taxonomy_is there.instances_is there.certificate_is w.acceptable)
+written_is_accepted written checked format most_written most facts bytes texts summary (Ok answer) w k =
+    k.accepted.1 (acceptable_there w.ontology answer.ontology texts.taxonomy texts.instances texts.certificate k.taxonomy_text k.instances_text k.certificate_text
+    (one_ontology written checked bytes w.ontology answer.ontology w.reads.0 k.reads.0) k.taxonomy_is k.instances_is k.certificate_is w.acceptable)
 written_is_accepted written checked format most_written most facts bytes texts summary (Err (Document fault)) w k = stops checked most bytes fault k
 written_is_accepted written checked format most_written most facts bytes texts summary (Err Memory) w k = tt
 written_is_accepted written checked format most_written most facts bytes texts summary (Err (Io n)) w k = tt

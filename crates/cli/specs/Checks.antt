@@ -1,5 +1,5 @@
 -- What a check of the texts of a document says.
-use Rattle.std.specs.Prelude.{◌≡◌, ◌≤◌, ◌↔◌, ◌⊎◌, ℕ, zero, suc, List, Option, Some, None, Result, Ok, Err}
+use Rattle.std.specs.Prelude.{◌≡◌, ◌≤◌, ◌↔◌, ◌⊎◌, ℕ, zero, suc, List, [], Option, Some, None, Result, Ok, Err}
 use Rattle.axioms.specs.Ontology.{Ontology}
 use Rattle.axioms.specs.WellFormedness.{IsOntology}
 use Rattle.cert_check.specs.Acceptance.{AreRight, IsAcceptable}
@@ -9,8 +9,9 @@ use Rattle.cert_check.specs.declared.verdict.Verdict.{Verdict}
 use Rattle.cert_check.specs.declared.verdict.Verdict.TheVariants.{Accepted}
 use Rattle.certificate.specs.SourceReading.{StopsGoingOn}
 use Rattle.session.specs.Devices.{IsReadUntil}
-use Rattle.source_lines.specs.Sources.{SourceState, source_state, IsReadOn, IsReadToItsEnd, FailsInReading}
+use Rattle.source_lines.specs.Sources.{SourceState, source_state, Gives, IsReadOn, IsReadToItsEnd, FailsInReading}
 use Rattle.cli.specs.Classifications.{IsRead}
+use Rattle.cli.specs.declared.checking.Checked.{Checked}
 use Rattle.cli.specs.declared.fault.CheckFault.{CheckFault}
 use Rattle.cli.specs.declared.fault.CheckFault.TheVariants.{Document, Memory, Io}
 use Rattle.device.specs.declared.device.Source.{Ghosts}
@@ -59,9 +60,9 @@ IsCheckFault version most document (Document fault) = RefusesKnown version docum
 IsCheckFault version most document Memory = IsRead version most document
 IsCheckFault version most document (Io n) = (2 ≤ n) × (n ≤ 4) × IsRead version most document
 
--- what an answer says: the document reads as some ontology, and this is the verdict on it and the texts; or a fault
-abbrev pub IsCheckAnswer : Version → (most : ℕ) → (document taxonomy instances certificate : Option (List ℕ)) → Result Verdict CheckFault → Type 0
-IsCheckAnswer version most document taxonomy instances certificate (Ok verdict) = (o : Ontology) × IsChecked version most document taxonomy instances certificate o verdict
+-- what an answer says: the document reads as this ontology, and this is the verdict on it and the texts; or a fault
+abbrev pub IsCheckAnswer : Version → (most : ℕ) → (document taxonomy instances certificate : Option (List ℕ)) → Result Checked CheckFault → Type 0
+IsCheckAnswer version most document taxonomy instances certificate (Ok checked) = IsChecked version most document taxonomy instances certificate checked.ontology checked.verdict
 IsCheckAnswer version most document taxonomy instances certificate (Err fault) = IsCheckFault version most document fault
 
 -- ---- what was read
@@ -116,14 +117,14 @@ states D T I C four = record { document = source_state D four.0; texts = text_st
 
 -- what was read of the four: each to its end, but the certificate's maybe less, as above; or until this fault. The texts are not
 -- touched where the document is at fault, and the document was read to its end where one of them is
-abbrev pub AreRead : Result Verdict CheckFault → (old new : Sources) → Type 0
-AreRead (Ok verdict) old new = IsReadToItsEnd old.document new.document × AreTextsRead (Ok verdict) old.texts new.texts
+abbrev pub AreRead : Result Checked CheckFault → (old new : Sources) → Type 0
+AreRead (Ok checked) old new = IsReadToItsEnd old.document new.document × AreTextsRead (Ok checked.verdict) old.texts new.texts
 AreRead (Err (Document fault)) old new = IsReadUntil fault old.document new.document × (new.texts ≡ old.texts)
 AreRead (Err Memory) old new = IsReadToItsEnd old.document new.document × AreTextsReadUntil Memory old.texts new.texts
 AreRead (Err (Io n)) old new = IsReadToItsEnd old.document new.document × AreTextsReadUntil (Io n) old.texts new.texts
 
 -- what was read of the four sources, by what they tell before and after a call
-abbrev pub Reads : {D T I C : Type 0} → Ghosts D → Ghosts T → Ghosts I → Ghosts C → (old new : D × T × I × C) → Result Verdict CheckFault → Type 0
+abbrev pub Reads : {D T I C : Type 0} → Ghosts D → Ghosts T → Ghosts I → Ghosts C → (old new : D × T × I × C) → Result Checked CheckFault → Type 0
 Reads D T I C old new answer = AreRead answer (states D T I C old) (states D T I C new)
 
 -- what was read of the source of a text: all; or memory was refused; or the fault is the number of the source, and it failed

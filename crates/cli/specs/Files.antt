@@ -1,5 +1,6 @@
 -- What is seen of the files of a run, and which of them the answers of its calls blame.
-use Rattle.std.specs.Prelude.{◌≡◌, ◌≤◌, ℕ, List, Bool, false, Option, Result, Ok, Err}
+use Rattle.std.specs.Prelude.{◌≡◌, ℕ, zero, suc, List, Bool, false, Option, Result, Ok, Err}
+use Rattle.std.specs.Io.KnownBytes.{Keeps}
 use Rattle.cert_check.specs.declared.conversion.ConvertFault.{ConvertFault}
 use Rattle.cert_check.specs.declared.conversion.ConvertFault.TheVariants as converting
 use Rattle.command_line.specs.declared.tasks.Conversion.{Conversion}
@@ -16,7 +17,8 @@ use Rattle.profile.specs.declared.fault.DocumentFault.{DocumentFault}
 use Rattle.profile.specs.declared.fault.DocumentFault.TheVariants.{Io, Memory}
 use Rattle.session.specs.declared.question_fault.QuestionFault.{QuestionFault}
 use Rattle.session.specs.declared.question_fault.QuestionFault.TheVariants as asking
-use Rattle.system_files.specs.Contents.{Content, IsMissing, IsThere}
+use Rattle.source_lines.specs.Sources.{SourceState}
+use Rattle.system_files.specs.Contents.{Content, GivesAll, IsMissing, IsStuck, IsThere}
 use Rattle.system_files.specs.declared.files.Files.{Ghosts}
 
 -- whether it is known what the files hold, whether a read can fail of one that is there, and how many writes had failed before
@@ -41,26 +43,22 @@ SomeWriteFails s = HasFailed s.failed_before s.failed_behind
 
 -- ---- reading
 
+-- a source of a file that holds this, of which nothing is read: all of it is left and can be read; or it is missing, and each read fails
+pub record IsSourceOf (known : Bool) (held : Option (List ℕ)) (s : SourceState) : Type 0 where
+  pub left : Keeps held s.left
+  pub most : GivesAll held s.most
+  pub missing : IsMissing known held → IsStuck s.left s.most
+  pub failures : s.failures ≡ 0
+
 -- a read failed of the file that holds this: where no read fails of a file that is there, it is missing
 abbrev pub IsUnreadable : (fails known : Bool) → Option (List ℕ) → Type 0
 IsUnreadable fails known held = fails ≡ false → IsMissing known held
-
--- why there is no source of a document: its file is missing, or memory was refused
-abbrev pub IsUnopened : (known : Bool) → Option (List ℕ) → DocumentFault → Type 0
-IsUnopened known held Io = IsMissing known held
-IsUnopened known held Memory = Unit {0}
-IsUnopened known held fault = ⊥
 
 -- what a fault of a document says of its file: that it was not read only where a read failed, and all else of a file that is there
 abbrev pub BlamesFile : (fails known : Bool) → Option (List ℕ) → DocumentFault → Type 0
 BlamesFile fails known held Io = IsUnreadable fails known held
 BlamesFile fails known held Memory = Unit {0}
 BlamesFile fails known held fault = IsThere known held
-
--- what an answer of a reading says of the file: that it is there, or what the fault says of it
-abbrev pub ReadsFile : {X : Type 0} → (fails known : Bool) → Option (List ℕ) → Result X DocumentFault → Type 0
-ReadsFile fails known held (Ok x) = IsThere known held
-ReadsFile fails known held (Err fault) = BlamesFile fails known held fault
 
 -- ---- the answers of the calls
 
@@ -84,24 +82,19 @@ pub record AreTextsThere (known : Bool) (content : Content) (paths : Paths) : Ty
   pub instances : IsThere known (content paths.instances.now)
   pub certificate : IsThere known (content paths.certificate.now)
 
--- what a fault says of the file of the text of that number: that it was not read only where a read failed
-abbrev pub IsTextUnread : (number : ℕ) → (fails known : Bool) → Option (List ℕ) → CheckFault → Type 0
-IsTextUnread number fails known held (checking.Document fault) = ⊥
-IsTextUnread number fails known held checking.Memory = Unit {0}
-IsTextUnread number fails known held (checking.Io n) = (n ≡ number) × IsUnreadable fails known held
+-- the files of the texts whose numbers, from 2, are below this are there
+abbrev pub AreThereBefore : ℕ → (known : Bool) → Content → Paths → Type 0
+AreThereBefore (suc (suc (suc zero))) known content paths = IsThere known (content paths.taxonomy.now)
+AreThereBefore (suc (suc (suc (suc zero)))) known content paths = IsThere known (content paths.taxonomy.now) × IsThere known (content paths.instances.now)
+AreThereBefore n known content paths = Unit {0}
 
--- what a fault says of the files of the three texts: that the one of the number, from 2, was not read only where a read failed
-abbrev pub BlamesText : (fails known : Bool) → Content → Paths → CheckFault → Type 0
-BlamesText fails known content paths (checking.Document fault) = ⊥
-BlamesText fails known content paths checking.Memory = Unit {0}
-BlamesText fails known content paths (checking.Io n) = (2 ≤ n) × (n ≤ 4) × IsUnreadable fails known (content (read_path paths n))
-
--- what an answer of a check says of the four files
+-- what an answer of a check says of the four files: that they are there; or, where one was not read, that those before it are
 abbrev pub ChecksFiles : {X : Type 0} → (fails known : Bool) → Content → Paths → Result X CheckFault → Type 0
 ChecksFiles fails known content paths (Ok x) = IsThere known (content paths.document.now) × AreTextsThere known content paths
 ChecksFiles fails known content paths (Err (checking.Document fault)) = BlamesFile fails known (content paths.document.now) fault
 ChecksFiles fails known content paths (Err checking.Memory) = IsThere known (content paths.document.now)
-ChecksFiles fails known content paths (Err (checking.Io n)) = IsThere known (content paths.document.now) × IsUnreadable fails known (content (read_path paths n))
+ChecksFiles fails known content paths (Err (checking.Io n)) =
+    IsThere known (content paths.document.now) × AreThereBefore n known content paths × IsUnreadable fails known (content (read_path paths n))
 
 -- what a fault of a certificate's text says of the writes: that one failed only where that is the fault
 abbrev pub BlamesWrites : Store → ConvertFault → Type 0

@@ -9,4 +9,5 @@ pub mod Filing
 pub mod Speaking
 pub mod Runs
 pub mod Theorems
+pub mod WordsOfRuns
 pub mod Starts

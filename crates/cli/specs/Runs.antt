@@ -1,9 +1,7 @@
 -- What a run of the program does.
 use Rattle.std.specs.Prelude.{◌≡◌, ℕ, ◌⊎◌, List, [], ◌∷◌, Bool, true, false, if◌then◌else◌, Option, Result, Ok, Err, ◌++◌, codes}
-use Rattle.axioms.specs.Ontology.{Ontology}
 use Rattle.certificate.specs.declared.format.Format.{Format}
 use Rattle.certificate.specs.declared.format.Format.TheVariants.{One, Two}
-use Rattle.cert_check.specs.declared.verdict.Verdict.{Verdict}
 use Rattle.classification.specs.declared.classification.Summary.{Summary}
 use Rattle.clap.specs.Words.{Text}
 use Rattle.command_line.specs.CommandLine.{IsTaskOf, Refuses}
@@ -18,7 +16,7 @@ use Rattle.command_line.specs.declared.tasks.Question.{Question}
 use Rattle.command_line.specs.declared.tasks.Task.{Task}
 use Rattle.cert_check.specs.declared.conversion.ConvertFault.{ConvertFault}
 use Rattle.cert_check.specs.declared.conversion.ConvertFault.TheVariants as converting
-use Rattle.cli.specs.Checks.{IsChecked, IsCheckFault}
+use Rattle.cli.specs.Checks.{IsCheckAnswer}
 use Rattle.cli.specs.Conversions.{IsConversionAnswer}
 use Rattle.cli.specs.declared.fault.ConversionFault.{ConversionFault}
 use Rattle.cli.specs.declared.fault.ConversionFault.TheVariants.{Certificate, Document, Unread}
@@ -34,6 +32,7 @@ use Rattle.cli.specs.HeldTexts.{AreApart, AreOthersKept, HoldTexts, HoldTextsUnt
 use Rattle.session.specs.Classifications.{IsClassified}
 use Rattle.session.specs.WrittenTexts.{Texts}
 use Rattle.cli.specs.Speaking.{IsSessionRun}
+use Rattle.cli.specs.declared.checking.Checked.{Checked}
 use Rattle.cli.specs.declared.fault.CheckFault.{CheckFault}
 use Rattle.cli.specs.declared.fault.ClassifyFault.{ClassifyFault}
 use Rattle.cli.specs.declared.fault.ClassifyFault.TheVariants.{Io}
@@ -94,19 +93,18 @@ pub record IsClassifyRun (paths : Paths) (format : Format) (limits : Limits) (s 
   pub told : IsClassifyTold paths limits answer old new status
 
 -- what an answer says of a check of files: the verdict on them; or why there is none
-abbrev pub IsCheckedFiles : Paths → Version → (bytes : ℕ) → Content → Result (Ontology × Verdict) CheckFault → Type 0
-IsCheckedFiles paths version bytes content (Ok p) =
-    IsChecked version bytes (content paths.document.now) (content paths.taxonomy.now) (content paths.instances.now) (content paths.certificate.now) p.0 p.1
-IsCheckedFiles paths version bytes content (Err fault) = IsCheckFault version bytes (content paths.document.now) fault
+abbrev pub IsCheckedFiles : Paths → Version → (bytes : ℕ) → Content → Result Checked CheckFault → Type 0
+IsCheckedFiles paths version bytes content answer =
+    IsCheckAnswer version bytes (content paths.document.now) (content paths.taxonomy.now) (content paths.instances.now) (content paths.certificate.now) answer
 
 -- the verdict is printed; or a fault is told
-abbrev pub IsCheckTold : Paths → (bytes : ℕ) → Result (Ontology × Verdict) CheckFault → (old new : Output) → (status : ℕ) → Type 0
-IsCheckTold paths bytes (Ok p) old new status = IsAnswered old new (verdict_text p.0 p.1) (verdict_status p.1) status
+abbrev pub IsCheckTold : Paths → (bytes : ℕ) → Result Checked CheckFault → (old new : Output) → (status : ℕ) → Type 0
+IsCheckTold paths bytes (Ok checked) old new status = IsAnswered old new (verdict_text checked.ontology checked.verdict) (verdict_status checked.verdict) status
 IsCheckTold paths bytes (Err fault) old new status = (new.out ≡ old.out) × IsTold old.err new.err (IsCheckText paths bytes fault) (check_status fault) status
 
 -- a run of `check`
 pub record IsCheckRun (paths : Paths) (version : Version) (bytes : ℕ) (s : Store) (content : Content) (old new : Output) (status : ℕ) : Type 0 where
-  pub answer : Result (Ontology × Verdict) CheckFault
+  pub answer : Result Checked CheckFault
   pub checked : IsCheckedFiles paths version bytes content answer
   pub blames : ChecksFiles s.reads_fail s.is_known content paths answer
   pub told : IsCheckTold paths bytes answer old new status

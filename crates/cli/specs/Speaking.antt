@@ -1,16 +1,16 @@
 -- A run that keeps a document, and answers commands.
 use Rattle.std.specs.Prelude.{◌≡◌, ◌⊎◌, ℕ, List, [], Bool, Option, codes}
 use Rattle.std.specs.Borrow.{Bor}
-use Rattle.std.specs.Io.KnownBytes.{Keeps}
-use Rattle.cli.specs.Files.{BlamesFile, IsUnopened, NoWriteFails, Store}
+use Rattle.cli.specs.Files.{BlamesFile, IsSourceOf, NoWriteFails, Store}
 use Rattle.cli.specs.Filing.{filing_service}
-use Rattle.cli.specs.Messages.{IsTold, Output}
+use Rattle.cli.specs.Messages.{IsPrinted, IsTold, Output, out_of_memory}
 use Rattle.profile.specs.Faults.{OpensKnown, RefusesKnown}
 use Rattle.profile.specs.Messages.{status_of}
 use Rattle.profile.specs.declared.fault.DocumentFault.{DocumentFault}
 use Rattle.program.specs.Status.{code_of}
 use Rattle.program.specs.declared.limits.Limits.{Limits}
-use Rattle.session.specs.Sessions.{Opened, as_read}
+use Rattle.program.specs.declared.status.Status.TheVariants as statuses
+use Rattle.session.specs.Sessions.{IsSession, Opened, as_read}
 use Rattle.source_lines.specs.Sources.{SourceState}
 use Rattle.speech.specs.Conversations.{IsConversation}
 use Rattle.speech.specs.Messages.{IsDocumentText}
@@ -28,6 +28,7 @@ pub record IsOpenedAs (limits : Limits) (held : Option (List ℕ)) (s : Opened) 
   pub read : OpensKnown limits.version held limits.max_bytes (as_read s)
   pub limit : s.most_bytes ≡ limits.max_bytes
   pub unserved : s.saturation.state.served ≡ []
+  pub session : IsSession s
 
 -- the files hold what they held, and no write failed
 pub record AreFilesKept (s : Store) (content content' : Content) : Type 0 where
@@ -43,12 +44,12 @@ pub record IsUnopenedTold (path : List ℕ) (limits : Limits) (s : Store) (conte
   pub told : IsTold old.err new.err (IsDocumentText path limits.max_bytes fault) (status_of fault) status
   pub files : AreFilesKept s content content'
 
--- there is nothing to read commands from, which is told
-pub record IsUnheardTold (limits : Limits) (s : Store) (content content' : Content) (old new : Output) (status : ℕ) : Type 0 where
-  pub fault : DocumentFault
-  pub unopened : IsUnopened s.is_known (content input_path) fault
+-- the document was opened, and then there was no memory for reading commands, which is told
+pub record IsUnheardTold (path : List ℕ) (limits : Limits) (s : Store) (content content' : Content) (old new : Output) (status : ℕ) : Type 0 where
+  pub session : Opened
+  pub opened : IsOpenedAs limits (content path) session
   pub unprinted : new.out ≡ old.out
-  pub told : IsTold old.err new.err (IsDocumentText input_path limits.max_bytes fault) (status_of fault) status
+  pub told : IsPrinted old.err new.err out_of_memory statuses.Memory status
   pub files : AreFilesKept s content content'
 
 -- commands are answered by a session over the document, which writes its texts into the files, up to an end that the status tells; what is
@@ -60,7 +61,7 @@ pub record IsSpoken (told : Bool) (document : Bor (List ℕ)) (limits : Limits) 
   pub limits_are : service.limits ≡ limits
   pub before : SourceState
   pub after : SourceState
-  pub left : Keeps (content input_path) before.left
+  pub input : IsSourceOf s.is_known (content input_path) before
   pub ending : Ending
   pub spoken : IsConversation (filing_service s.is_known told document) (record { service = service; content = content; failed_writes = s.failed_before })
       (record { service = last; content = content'; failed_writes = s.failed_behind }) before after old.out new.out ending
@@ -71,4 +72,4 @@ pub record IsSpoken (told : Bool) (document : Bor (List ℕ)) (limits : Limits) 
 abbrev pub IsSessionRun : (told : Bool) → (document : Bor (List ℕ)) → Limits → Store → (content content' : Content) → (old new : Output) → (status : ℕ) → Type 0
 IsSessionRun told document limits s content content' old new status =
     IsSpoken told document limits s content content' old new status
-    ⊎ (IsUnopenedTold document.now limits s content content' old new status ⊎ IsUnheardTold limits s content content' old new status)
+    ⊎ (IsUnopenedTold document.now limits s content content' old new status ⊎ IsUnheardTold document.now limits s content content' old new status)

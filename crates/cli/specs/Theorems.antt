@@ -2,25 +2,20 @@
 use Rattle.std.specs.Prelude.{◌≡◌, ◌<◌, ◌≤◌, ℕ, ◌⊎◌, List, [], Result, Ok, Err, Some, true, codes, length}
 use Rattle.axioms.specs.Ontology.{Ontology}
 use Rattle.cert_check.specs.Acceptance.{AreRight, IsAcceptable}
-use Rattle.cert_check.specs.declared.verdict.Verdict.{Verdict}
 use Rattle.cert_check.specs.declared.verdict.Verdict.TheVariants.{Accepted}
 use Rattle.certificate.specs.declared.format.Format.{Format}
 use Rattle.classification.specs.Classifications.{AreCountsOf, IsWrittenIn}
 use Rattle.classification.specs.declared.classification.Summary.{Summary}
-use Rattle.command_line.specs.declared.tasks.FormatNumber.{FormatNumber}
 use Rattle.command_line.specs.declared.tasks.Paths.{Paths}
 use Rattle.cli.specs.Checks.{IsCheckAnswer}
-use Rattle.clap.specs.Words.{Text, takes}
-use Rattle.command_line.specs.CommandLine.{IsTaskOf, elc_app}
-use Rattle.command_line.specs.declared.tasks.Command.TheVariants.{Check, Classify}
-use Rattle.command_line.specs.declared.tasks.Task.{Task}
 use Rattle.cli.specs.Files.{Store}
 use Rattle.cli.specs.HeldTexts.{AreApart}
-use Rattle.cli.specs.Runs.{IsPerformed}
-use Rattle.cli.specs.Messages.{BehindProgress, Output, IsAnswered, IsCheckText, IsTold, check_status}
+use Rattle.cli.specs.Runs.{IsCheckRun, IsClassifyRun}
+use Rattle.cli.specs.Messages.{Output, IsAnswered, IsCheckText, IsTold, check_status}
 use Rattle.cli.specs.Classifications.{IsClassification}
 use Rattle.session.specs.Classifications.{IsClassified}
 use Rattle.session.specs.WrittenTexts.{Texts, AreWritten, Sinks}
+use Rattle.cli.specs.declared.checking.Checked.{Checked}
 use Rattle.cli.specs.declared.fault.CheckFault.{CheckFault}
 use Rattle.cli.specs.declared.fault.CheckFault.TheVariants.{Document, Memory, Io}
 use Rattle.cli.specs.declared.fault.ClassifyFault.{ClassifyFault}
@@ -30,6 +25,7 @@ use Rattle.profile.specs.Faults.{ReadAsNone}
 use Rattle.profile.specs.declared.fault.DocumentFault.TheVariants as reading
 use Rattle.engine.specs.Saturations.{HasMoreFactsThan}
 use Rattle.program.specs.Status.{code_of}
+use Rattle.program.specs.declared.limits.Limits.{Limits}
 use Rattle.program.specs.declared.status.Status.TheVariants as statuses
 use Rattle.program.specs.declared.version.Version.{Version}
 use Rattle.program.specs.declared.version.Version.TheVariants.{Two}
@@ -70,15 +66,15 @@ IsStop version most document Memory = Unit {0}
 IsStop version most document (Io n) = Unit {0}
 
 -- the answer of a check is that the texts are accepted, unless the check is stopped
-abbrev pub AcceptsUnlessStopped : Version → (most : ℕ) → (document : List ℕ) → Result Verdict CheckFault → Type 0
-AcceptsUnlessStopped version most document (Ok verdict) = verdict ≡ Accepted
+abbrev pub AcceptsUnlessStopped : Version → (most : ℕ) → (document : List ℕ) → Result Checked CheckFault → Type 0
+AcceptsUnlessStopped version most document (Ok checked) = checked.verdict ≡ Accepted
 AcceptsUnlessStopped version most document (Err fault) = IsStop version most document fault
 
 -- the texts that a classification of a document writes, in whatever format, are accepted where the same document is checked, in whatever
 -- versions
 abbrev pub WhatIsWrittenIsAccepted : Type 0
 WhatIsWrittenIsAccepted =
-    (written checked : Version) (format : Format) (most_written most_checked facts : ℕ) (bytes : List ℕ) (texts : Texts) (summary : Summary) (answer : Result Verdict CheckFault) →
+    (written checked : Version) (format : Format) (most_written most_checked facts : ℕ) (bytes : List ℕ) (texts : Texts) (summary : Summary) (answer : Result Checked CheckFault) →
     IsClassified written format most_written facts (Some bytes) summary texts →
     IsCheckAnswer checked most_checked (Some bytes) (Some texts.taxonomy) (Some texts.instances) (Some texts.certificate) answer →
     AcceptsUnlessStopped checked most_checked bytes answer
@@ -103,8 +99,8 @@ pub record AreRightFor (version : Version) (document taxonomy instances certific
 -- texts that a check of a document accepts, whoever made them, are right for it
 abbrev pub AcceptedTextsAreRight : Type 0
 AcceptedTextsAreRight =
-    (version : Version) (most : ℕ) (document taxonomy instances certificate : List ℕ) →
-    IsCheckAnswer version most (Some document) (Some taxonomy) (Some instances) (Some certificate) (Ok Accepted) →
+    (version : Version) (most : ℕ) (document taxonomy instances certificate : List ℕ) (checked : Checked) →
+    IsCheckAnswer version most (Some document) (Some taxonomy) (Some instances) (Some certificate) (Ok checked) → checked.verdict ≡ Accepted →
     AreRightFor version document taxonomy instances certificate
 
 -- ---- written files are accepted
@@ -131,12 +127,21 @@ IsAcceptedRun version most document old new status =
     IsAnswered old new accepted statuses.Done status
     ⊎ ((paths : Paths) × (fault : CheckFault) × IsStop version most document fault × (new.out ≡ old.out) × IsTold old.err new.err (IsCheckText paths most fault) (check_status fault) status)
 
--- after a run of `classify` with status 0, over files whose content is known, a run of `check` on the same four paths prints
--- `accepted`, behind its progress. The words of both are taken by clap's function of the program's commands
+-- after a run of `classify` with status 0, over files whose content is known, a run of `check` on the same four paths prints `accepted`.
+-- Both are runs of a command within limits, whatever words asked for them
 abbrev pub WrittenFilesAreAccepted : Type 0
 WrittenFilesAreAccepted =
-    (written checked : List Text) (task task' : Task) (paths paths' : Paths) (format : FormatNumber) (s s' : Store) (content content' content'' : Content) (old new old' new' : Output) (status : ℕ) (document : List ℕ) →
-    IsTaskOf written task → task.command ≡ Classify paths format → IsTaskOf checked task' → task'.command ≡ Check paths' → takes elc_app checked ≡ true →
+    (paths paths' : Paths) (format : Format) (limits : Limits) (version : Version) (most : ℕ) (s s' : Store) (content content' : Content) (old new old' new' : Output) (status : ℕ) (document : List ℕ) →
     AreSamePaths paths paths' → AreApart paths → IsDocumentApart paths → s.is_known ≡ true → content paths.document.now ≡ Some document →
-    IsPerformed written s content content' old new (code_of statuses.Done) → IsPerformed checked s' content' content'' old' new' status →
-    BehindProgress task'.progress old' (λ begun. IsAcceptedRun task'.limits.version task'.limits.max_bytes document begun new' status)
+    IsClassifyRun paths format limits s content content' old new (code_of statuses.Done) → IsCheckRun paths' version most s' content' old' new' status →
+    IsAcceptedRun version most document old' new' status
+
+-- ---- accepted files are right
+
+-- texts in files that a run of `check` with status 0 accepts, whoever made them, are right for the document there
+abbrev pub AcceptedFilesAreRight : Type 0
+AcceptedFilesAreRight =
+    (paths : Paths) (version : Version) (most : ℕ) (s : Store) (content : Content) (old new : Output) (document taxonomy instances certificate : List ℕ) →
+    content paths.document.now ≡ Some document → content paths.taxonomy.now ≡ Some taxonomy → content paths.instances.now ≡ Some instances → content paths.certificate.now ≡ Some certificate →
+    IsCheckRun paths version most s content old new (code_of statuses.Done) →
+    AreRightFor version document taxonomy instances certificate

@@ -6,12 +6,12 @@ ghost use Rattle.session.specs.TextAnswers.{AnswersInstances, AnswersQuery, IsFa
 ghost use Rattle.session.specs.Answers.{class_name};
 ghost use Rattle.std.specs.Prelude.{◌≡◌, [], ◌∷◌, IfErr, IfOk};
 
-use crate::opening::document_of;
 use crate::printing::{print_bytes, tell};
+use crate::sources::source_of;
 use answers::Asked;
 use command_line::{Command, Question};
 use device::Sink;
-use profile::Limits;
+use profile::{DocumentFault, Limits};
 use program::Status;
 use session::{Form, QuestionFault, explanation_text, instances_text, query_text};
 use speech::question_message;
@@ -49,10 +49,10 @@ fn instances_in<'n, F: Files>(
     ensures fault { IfErr result (IsFaultOf limits.now (F.content files.now path.now) (class_name class.now ∷ [])) }
     ensures blames { AsksFile F.reads_fail (F.is_known files.now) (F.content files.now path.now) result }
 {
-    match document_of(files, path) {
-        Ok(mut document) => instances_text(alloc, &mut document, class, limits, state),
-        Err(fault) => Err(QuestionFault::Document(fault)),
-    }
+    let Ok(mut document) = source_of(files, path) else {
+        return Err(QuestionFault::Document(DocumentFault::Memory));
+    };
+    instances_text(alloc, &mut document, class, limits, state)
 }
 
 /// Prints the individuals that belong to the class of that name.
@@ -112,9 +112,8 @@ fn explanation_in<'n, F: Files>(
     ensures fault { IfErr result (IsFaultFor limits.now (F.content files.now question.now.document.now) question.now) }
     ensures blames { AsksFile F.reads_fail (F.is_known files.now) (F.content files.now question.now.document.now) result }
 {
-    let mut document = match document_of(files, question.document) {
-        Ok(document) => document,
-        Err(fault) => return Err(QuestionFault::Document(fault)),
+    let Ok(mut document) = source_of(files, question.document) else {
+        return Err(QuestionFault::Document(DocumentFault::Memory));
     };
     explanation_text(
         alloc,
@@ -157,10 +156,10 @@ fn query_in<F: Files>(
     ensures fault { IfErr result (IsQueryFaultOf limits.now (F.content files.now path.now) expression.now) }
     ensures blames { AsksFile F.reads_fail (F.is_known files.now) (F.content files.now path.now) result }
 {
-    match document_of(files, path) {
-        Ok(mut document) => query_text(alloc, &mut document, expression, limits, state),
-        Err(fault) => Err(QuestionFault::Document(fault)),
-    }
+    let Ok(mut document) = source_of(files, path) else {
+        return Err(QuestionFault::Document(DocumentFault::Memory));
+    };
+    query_text(alloc, &mut document, expression, limits, state)
 }
 
 /// Prints the classes above and below the class expression, and its individuals.

@@ -1,28 +1,30 @@
 //! The check of a document's texts.
 ghost use Rattle.cert_check.specs.SourceVerdicts.{IsJudgedFrom};
 ghost use Rattle.certificate.specs.SourceReading.{StopsGoingOn};
-ghost use Rattle.cli.specs.Checks.{AreKnown, AreTextsJudged, IsCertificateJudged, IsCheckAnswer, IsTextRead, IsUnjudged, Reads, ReadsTexts, StopsInCertificate};
-ghost use Rattle.source_lines.specs.Sources.{source_state};
-ghost use Rattle.cli.specs.Files.{AreTextsThere, BlamesText, ChecksFiles, IsTextUnread};
-ghost use Rattle.cli.specs.Runs.{IsCheckedFiles};
+ghost use Rattle.cli.specs.Checks.{AreKnown, AreTextsJudged, IsCheckAnswer, IsTextRead, IsUnjudged, Reads, ReadsTexts, StopsInCertificate};
 ghost use Rattle.cli.specs.declared.fault.CheckFault.TheVariants as faults;
 ghost use Rattle.profile.specs.declared.fault.DocumentFault.TheVariants as document_faults;
 ghost use Rattle.session.specs.Devices.{seen};
 ghost use Rattle.session.specs.Progress.{IsProgress};
-ghost use Rattle.std.specs.Prelude.{◌+◌, ◌<◌, IfErr, IfOk, IsErrOf, OnOk};
-ghost use Rattle.system_files.specs.Contents.{IsThere};
+ghost use Rattle.source_lines.specs.Sources.{source_state};
+ghost use Rattle.std.specs.Prelude.{◌+◌, ◌<◌, IfErr, IfOk, IsErrOf};
 
 use crate::fault::CheckFault;
-use crate::opening::ontology_telling;
+use crate::reading::read_telling;
 use axioms::Ontology;
 use cert_check::{StreamFault, Verdict, check_from};
-use command_line::Paths;
 use device::{ReadFault, Sink, Source, read_all};
-use profile::{Limits, read_document};
+use profile::Limits;
 use session::{Stage, tell_stage};
 use std::alloc::Global;
 use std::hash::RandomState;
-use system_files::{Files, OpenFault};
+
+/// The verdict on the texts of a document, and the ontology that it is on: a reason names what that has by its number.
+#[derive(Drop)]
+pub struct Checked {
+    pub ontology: Ontology,
+    pub verdict: Verdict,
+}
 
 /// All the bytes of the source of that number.
 pub(crate) fn bytes_of<S: Source>(
@@ -59,19 +61,23 @@ fn judged<C: Source>(
     }
 }
 
-/// The verdict on the texts of the three sources, which are read in their order and are numbered from 2.
-fn texts_judged<T: Source, I: Source, C: Source>(
+/// The verdict on the texts of the three sources, which are read in their order and are numbered from 2. Where progress is told, the
+/// sink is told what was read.
+fn texts_judged<T: Source, I: Source, C: Source, W: Sink>(
     alloc: Global,
     ontology: &Ontology,
     taxonomy: &mut T,
     instances: &mut I,
     certificate: &mut C,
+    told: bool,
+    sink: &mut W,
 ) -> Result<Verdict, CheckFault>
     ensures judged { IfOk result (AreTextsJudged ontology.now (T.left taxonomy.old) (I.left instances.old) (C.left certificate.old)) }
     ensures stops { IsErrOf result (faults.Io 4) → StopsGoingOn ontology.now
         (source_state C.Source certificate.old) (source_state C.Source certificate.new) }
     ensures read { ReadsTexts T.Source I.Source C.Source
         (taxonomy.old, instances.old, certificate.old) (taxonomy.new, instances.new, certificate.new) result }
+    ensures progress { IsProgress told (seen W.Sink sink.old) (seen W.Sink sink.new) }
 {
     let taxonomy = match bytes_of(alloc, taxonomy, 2) {
         Ok(taxonomy) => taxonomy,
@@ -81,27 +87,34 @@ fn texts_judged<T: Source, I: Source, C: Source>(
         Ok(instances) => instances,
         Err(fault) => return Err(fault),
     };
+    let read = Stage::TextsRead {
+        taxonomy: taxonomy.len(),
+        instances: instances.len(),
+    };
+    tell_stage(sink, told, &read);
     judged(alloc, ontology, &taxonomy, &instances, certificate)
 }
 
 /// Reads the document and the three texts, in this order up to the first fault, and answers whether the certificate
 /// shows that the other two are right. The certificate is not held in memory: it is checked as it is read, and behind a
-/// line that cannot follow those before it it is read no further.
+/// line that cannot follow those before it it is read no further. Where progress is told, the sink is told how far it is.
 ///
 /// # Errors
 ///
 /// `Document` where the document is refused or its source failed; `Io` with the number of a text's source that failed;
 /// `Memory` where memory was refused. No verdict is given after a failed read.
-pub fn check_document<D: Source, T: Source, I: Source, C: Source>(
+pub fn check_document<D: Source, T: Source, I: Source, C: Source, W: Sink>(
     alloc: Global,
     document: &mut D,
     taxonomy: &mut T,
     instances: &mut I,
     certificate: &mut C,
     limits: &Limits,
+    told: bool,
+    sink: &mut W,
     state: RandomState,
-) -> Result<Verdict, CheckFault>
-    // The document reads as an ontology in the version of the limits, and the verdict is on that ontology and the three
+) -> Result<Checked, CheckFault>
+    // The document reads as the ontology in the version of the limits, and the verdict is on that ontology and the three
     // texts; or a fault of the document is one.
     ensures answered { IsCheckAnswer limits.now.version limits.now.max_bytes
         (D.left document.old) (T.left taxonomy.old) (I.left instances.old) (C.left certificate.old) result }
@@ -115,113 +128,16 @@ pub fn check_document<D: Source, T: Source, I: Source, C: Source>(
     // The certificate's source is at fault only where every whole line that it gave can follow those before it.
     ensures stops { IsErrOf result (faults.Io 4) → StopsInCertificate limits.now.version limits.now.max_bytes (D.left document.old)
         (source_state C.Source certificate.old) (source_state C.Source certificate.new) }
+    // Where progress is told, the sink takes lines of stages; where it is not, nothing.
+    ensures progress { IsProgress told (seen W.Sink sink.old) (seen W.Sink sink.new) }
 {
-    let ontology = match read_document(alloc, document, limits, state) {
+    let ontology = match read_telling(alloc, document, limits, told, sink, state) {
         Ok(ontology) => ontology,
         Err(fault) => return Err(CheckFault::Document(fault)),
     };
     ontology.well_formed();
-    texts_judged(alloc, &ontology, taxonomy, instances, certificate)
-}
-
-/// All the bytes of the file at the path, which is the text of that number.
-pub(crate) fn file_bytes<F: Files>(
-    alloc: Global,
-    files: &F,
-    path: &str,
-    number: usize,
-) -> Result<Vec<u8>, CheckFault>
-    ensures known { IfOk result (λ v. AreKnown (F.content files.now path.now) v.items) }
-    ensures there { OnOk result (IsThere (F.is_known files.now) (F.content files.now path.now)) }
-    ensures fault { IfErr result (IsTextUnread number F.reads_fail (F.is_known files.now) (F.content files.now path.now)) }
-{
-    match files.reader(path) {
-        Ok(mut source) => bytes_of(alloc, &mut source, number),
-        Err(OpenFault::Missing) => Err(CheckFault::Io(number)),
-        Err(OpenFault::Memory) => Err(CheckFault::Memory),
-    }
-}
-
-/// The verdict on the two texts and that of the certificate in the file at the path.
-fn judged_in<F: Files>(
-    alloc: Global,
-    ontology: &Ontology,
-    taxonomy: &[u8],
-    instances: &[u8],
-    files: &F,
-    path: &str,
-) -> Result<Verdict, CheckFault>
-    ensures judged { IfOk result (IsCertificateJudged ontology.now taxonomy.now instances.now (F.content files.now path.now)) }
-    ensures there { OnOk result (IsThere (F.is_known files.now) (F.content files.now path.now)) }
-    ensures fault { IfErr result (IsTextUnread 4 F.reads_fail (F.is_known files.now) (F.content files.now path.now)) }
-{
-    match files.reader(path) {
-        Ok(mut source) => judged(alloc, ontology, taxonomy, instances, &mut source),
-        Err(OpenFault::Missing) => Err(CheckFault::Io(4)),
-        Err(OpenFault::Memory) => Err(CheckFault::Memory),
-    }
-}
-
-/// The verdict on the texts in the three files, which are read in their order. It is told what was read.
-fn files_judged<F: Files, E: Sink>(
-    alloc: Global,
-    ontology: &Ontology,
-    told: bool,
-    files: &F,
-    err: &mut E,
-    paths: &Paths<'_>,
-) -> Result<Verdict, CheckFault>
-    ensures judged { IfOk result (AreTextsJudged ontology.now (F.content files.now paths.now.taxonomy.now)
-        (F.content files.now paths.now.instances.now) (F.content files.now paths.now.certificate.now)) }
-    ensures there { OnOk result (AreTextsThere (F.is_known files.now) (F.content files.now) paths.now) }
-    ensures fault { IfErr result (BlamesText F.reads_fail (F.is_known files.now) (F.content files.now) paths.now) }
-    ensures progress { IsProgress told (seen E.Sink err.old) (seen E.Sink err.new) }
-{
-    let taxonomy = match file_bytes(alloc, files, paths.taxonomy, 2) {
-        Ok(taxonomy) => taxonomy,
-        Err(fault) => return Err(fault),
-    };
-    let instances = match file_bytes(alloc, files, paths.instances, 3) {
-        Ok(instances) => instances,
-        Err(fault) => return Err(fault),
-    };
-    let read = Stage::TextsRead {
-        taxonomy: taxonomy.len(),
-        instances: instances.len(),
-    };
-    tell_stage(err, told, &read);
-    judged_in(
-        alloc,
-        ontology,
-        &taxonomy,
-        &instances,
-        files,
-        paths.certificate,
-    )
-}
-
-/// The ontology of the document in a file, and the verdict on its texts in three more. Where progress is told, `err` is told how far
-/// it is.
-pub(crate) fn checked_files<F: Files, E: Sink>(
-    alloc: Global,
-    paths: &Paths<'_>,
-    limits: &Limits,
-    told: bool,
-    files: &F,
-    err: &mut E,
-    state: RandomState,
-) -> Result<(Ontology, Verdict), CheckFault>
-    ensures checked { IsCheckedFiles paths.now limits.now.version limits.now.max_bytes (F.content files.now) result }
-    ensures blames { ChecksFiles F.reads_fail (F.is_known files.now) (F.content files.now) paths.now result }
-    ensures progress { IsProgress told (seen E.Sink err.old) (seen E.Sink err.new) }
-{
-    let ontology = match ontology_telling(alloc, files, paths.document, limits, told, err, state) {
-        Ok(ontology) => ontology,
-        Err(fault) => return Err(CheckFault::Document(fault)),
-    };
-    ontology.well_formed();
-    match files_judged(alloc, &ontology, told, files, err, paths) {
-        Ok(verdict) => Ok((ontology, verdict)),
+    match texts_judged(alloc, &ontology, taxonomy, instances, certificate, told, sink) {
+        Ok(verdict) => Ok(Checked { ontology, verdict }),
         Err(fault) => Err(fault),
     }
 }

@@ -1,22 +1,20 @@
 //! Certificates that are written again in a format.
-ghost use Rattle.cli.specs.Conversions.{Converts, ConvertsInto, ReadsBoth, conversion_fault as as_conversion};
-ghost use Rattle.cli.specs.Files.{BlamesWrites, NoWriteFails, store};
-ghost use Rattle.cli.specs.HeldTexts.{Holds, HoldsPrefix, Stays};
-ghost use Rattle.cli.specs.Runs.{AreOtherFilesKept, IsConversionMade, format_of as format_with};
+ghost use Rattle.cli.specs.Conversions.{ConvertsInto, ReadsBoth, conversion_fault as as_conversion};
+ghost use Rattle.cli.specs.Files.{store};
+ghost use Rattle.cli.specs.Runs.{IsConversionMade};
 ghost use Rattle.cli.specs.declared.fault.ConversionFault.TheVariants as faults;
 ghost use Rattle.profile.specs.declared.fault.DocumentFault.TheVariants as document_faults;
-ghost use Rattle.std.specs.Prelude.{◌≡◌, ◌+◌, ◌<◌, IfErr, IsErrOf, OnOk};
+ghost use Rattle.std.specs.Prelude.{◌≡◌, ◌+◌, ◌<◌, IsErrOf};
 
-use crate::checking::{bytes_of, file_bytes};
+use crate::checking::bytes_of;
 use crate::fault::{CheckFault, ConversionFault};
 use crate::formats::format_of;
-use crate::opening::ontology_of;
-use axioms::Ontology;
+use crate::sources::both_sources;
 use cert_check::{ConvertFault, convert};
 use certificate::Format;
 use command_line::Conversion;
 use device::{Sink, Source};
-use profile::{Limits, read_document};
+use profile::{DocumentFault, Limits, read_document};
 use std::alloc::Global;
 use std::hash::RandomState;
 use system_files::Files;
@@ -73,30 +71,6 @@ pub fn convert_certificate<D: Source, C: Source, S: Sink>(
     }
 }
 
-/// Writes the certificate of the text into the file at the path.
-fn converted_into<F: Files>(
-    alloc: Global,
-    ontology: &Ontology,
-    text: &[u8],
-    format: Format,
-    files: &mut F,
-    path: &str,
-) -> Result<(), ConvertFault>
-    ensures converts { Converts ontology.now format (Holds (F.is_known files.old) (F.content files.new path.now))
-        (HoldsPrefix (F.is_known files.old) (F.content files.old path.now) (F.content files.new path.now))
-        (Stays (F.is_known files.old) (F.content files.old path.now) (F.content files.new path.now)) text.now result }
-    ensures unfailed { OnOk result (NoWriteFails (store F.Files files.old files.new)) }
-    ensures failed { IfErr result (BlamesWrites (store F.Files files.old files.new)) }
-    ensures others { AreOtherFilesKept path.now (F.content files.old) (F.content files.new) }
-{
-    let Ok(mut sink) = files.writer(path) else {
-        return Err(ConvertFault::Memory);
-    };
-    let converted = convert(alloc, ontology, text, format, &mut sink);
-    files.close(sink);
-    converted
-}
-
 /// Reads the document and then the certificate, and writes the certificate into the third file, which may be one of the two.
 pub(crate) fn converted_file<F: Files>(
     alloc: Global,
@@ -107,18 +81,21 @@ pub(crate) fn converted_file<F: Files>(
 ) -> Result<(), ConversionFault>
     ensures { IsConversionMade conversion.now limits.now (store F.Files files.old files.new) (F.content files.old) (F.content files.new) result }
 {
-    let ontology = match ontology_of(alloc, files, conversion.document, limits, state) {
-        Ok(ontology) => ontology,
-        Err(fault) => return Err(ConversionFault::Document(fault)),
+    let Ok(mut sources) = both_sources(files, conversion) else {
+        return Err(ConversionFault::Document(DocumentFault::Memory));
     };
-    ontology.well_formed();
-    let text = match file_bytes(alloc, files, conversion.certificate, 2) {
-        Ok(text) => text,
-        Err(fault) => return Err(conversion_fault(fault)),
+    let Ok(mut converted) = files.writer(conversion.output) else {
+        return Err(ConversionFault::Document(DocumentFault::Memory));
     };
-    let format = format_of(conversion.format);
-    match converted_into(alloc, &ontology, &text, format, files, conversion.output) {
-        Ok(()) => Ok(()),
-        Err(fault) => Err(ConversionFault::Certificate(fault)),
-    }
+    let answer = convert_certificate(
+        alloc,
+        &mut sources.document,
+        &mut sources.certificate,
+        &mut converted,
+        limits,
+        format_of(conversion.format),
+        state,
+    );
+    files.close(converted);
+    answer
 }

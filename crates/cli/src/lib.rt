@@ -2,7 +2,8 @@
 #![tactic(auto)]
 
 ghost use Rattle.cli.specs.Filing.{FiledConversationsAreCalls, FiledConversationsAreOneDocument};
-ghost use Rattle.cli.specs.Theorems.{AcceptedTextsAreRight, EveryDocumentIsClassified, ReadDocumentsAreNoStop, WhatIsWrittenIsAccepted, WrittenFilesAreAccepted};
+ghost use Rattle.cli.specs.Theorems.{AcceptedFilesAreRight, AcceptedTextsAreRight, EveryDocumentIsClassified, ReadDocumentsAreNoStop, WhatIsWrittenIsAccepted, WrittenFilesAreAccepted};
+ghost use Rattle.cli.specs.WordsOfRuns.{WordsOfCheckCheck, WordsOfClassifyClassify};
 
 mod asking;
 mod checking;
@@ -11,18 +12,19 @@ mod converting;
 mod fault;
 mod filing;
 mod formats;
-mod opening;
 mod printing;
+mod reading;
 mod run;
 mod sinks;
 mod slicing;
+mod sources;
 mod speaking;
 mod starting;
 
 pub use axioms::Ontology;
 pub use cert_check::{ConvertFault, Reason, Verdict};
 pub use certificate::Format;
-pub use checking::check_document;
+pub use checking::{Checked, check_document};
 pub use classification::Summary;
 pub use classifying::classify_document;
 pub use command_line::{Command, Conversion, FormatNumber, LineFault, Paths, Question, Task, task};
@@ -60,10 +62,24 @@ pub fn accepted_texts_are_right()
     ensures { AcceptedTextsAreRight }
 {}
 
-/// Two runs of `perform` over files whose content is known: after one that classifies and ends with status 0, one that
-/// checks the same four paths prints `accepted`, unless it is stopped so.
+/// Two runs of commands over files whose content is known: after one of `classify` that ends with status 0, one of `check` on the same
+/// four paths prints `accepted`, unless it is stopped so.
 pub fn written_files_are_accepted()
     ensures { WrittenFilesAreAccepted }
+{}
+
+/// A run of `check` over files whose content is known that ends with status 0 shows that the texts in them are right, whoever made
+/// them: the document reads as one ontology, whatever the version, the taxonomy and the instances say what follows from its axioms, as
+/// the certificate shows, and no other texts are acceptable for it.
+pub fn accepted_files_are_right()
+    ensures { AcceptedFilesAreRight }
+{}
+
+/// A run of `perform` whose words ask for a check, or for a classification, is a run of that command on the same four paths, within the
+/// limits of the words and behind its progress, unless memory is refused for reading the words.
+pub fn words_ask_for_one_run()
+    ensures check { WordsOfCheckCheck }
+    ensures classify { WordsOfClassifyClassify }
 {}
 
 /// Whatever is asked in a conversation with a session over files, and whatever is replied: it is calls of the session, one after the

@@ -1,26 +1,25 @@
 //! A whole run of the program.
 ghost use Rattle.session.specs.Devices.{seen};
 ghost use Rattle.session.specs.Progress.{IsProgress};
-ghost use Rattle.cli.specs.Files.{store};
-ghost use Rattle.cli.specs.Runs.{AskForNoFiles, IsCheckTold, IsClassifyMade, IsClassifyTold, IsConvertTold, IsUnconvertedTold, Performs, Runs, RunsTelling};
+ghost use Rattle.cli.specs.Files.{ChecksFiles, store};
+ghost use Rattle.cli.specs.Runs.{AskForNoFiles, IsCheckTold, IsCheckedFiles, IsClassifyMade, IsClassifyTold, IsConvertTold, IsUnconvertedTold, Performs, Runs, RunsTelling};
 ghost use Rattle.cli.specs.Messages.{IsLineTold, outputs};
 ghost use Rattle.std.specs.Prelude.{◌≡◌, map};
 
 use crate::asking::{perform_explain, perform_instances, perform_query};
-use crate::checking::checked_files;
-use crate::classifying::classify_telling;
+use crate::checking::{Checked, check_document};
+use crate::classifying::classify_document;
 use crate::converting::converted_file;
 use crate::fault::{CheckFault, ClassifyFault, ConversionFault};
 use crate::formats::format_of;
-use crate::opening::document_of;
 use crate::printing::{
     check_message, classify_message, print_numbered, print_summary, print_unconverted,
     print_verdict, tell, tell_out_of_memory, unwritten_message, usage_message,
 };
 use crate::sinks::sinks_of;
+use crate::sources::{check_sources, source_of};
 use crate::speaking::perform_session;
-use axioms::Ontology;
-use cert_check::{ConvertFault, Verdict};
+use cert_check::ConvertFault;
 use certificate::Format;
 use classification::Summary;
 use command_line::{Command, Conversion, FormatNumber, LineFault, Paths, task};
@@ -47,14 +46,13 @@ fn classified_files<F: Files, E: Sink>(
     ensures made { IsClassifyMade paths.now format limits.now (store F.Files files.old files.new) (F.content files.old) (F.content files.new) result }
     ensures progress { IsProgress told (seen E.Sink err.old) (seen E.Sink err.new) }
 {
-    let mut document = match document_of(files, paths.document) {
-        Ok(document) => document,
-        Err(fault) => return Err(ClassifyFault::Document(fault)),
+    let Ok(mut document) = source_of(files, paths.document) else {
+        return Err(ClassifyFault::Document(DocumentFault::Memory));
     };
     let Ok(mut sinks) = sinks_of(files, paths) else {
         return Err(ClassifyFault::Document(DocumentFault::Memory));
     };
-    let classified = classify_telling(
+    let classified = classify_document(
         alloc,
         &mut document,
         &mut sinks.taxonomy,
@@ -108,10 +106,40 @@ fn perform_classify<F: Files, O: Sink, E: Sink>(
     tell_classified(alloc, answer, paths, limits, out, err)
 }
 
+/// Checks the texts in the files. Where progress is told, `err` is told how far it is.
+fn checked_files<F: Files, E: Sink>(
+    alloc: Global,
+    paths: &Paths<'_>,
+    limits: &Limits,
+    told: bool,
+    files: &F,
+    err: &mut E,
+    state: RandomState,
+) -> Result<Checked, CheckFault>
+    ensures checked { IsCheckedFiles paths.now limits.now.version limits.now.max_bytes (F.content files.now) result }
+    ensures blames { ChecksFiles F.reads_fail (F.is_known files.now) (F.content files.now) paths.now result }
+    ensures progress { IsProgress told (seen E.Sink err.old) (seen E.Sink err.new) }
+{
+    let Ok(mut sources) = check_sources(files, paths) else {
+        return Err(CheckFault::Document(DocumentFault::Memory));
+    };
+    check_document(
+        alloc,
+        &mut sources.document,
+        &mut sources.taxonomy,
+        &mut sources.instances,
+        &mut sources.certificate,
+        limits,
+        told,
+        err,
+        state,
+    )
+}
+
 /// Prints the verdict, or why there is none.
 fn tell_checked<O: Sink, E: Sink>(
     alloc: Global,
-    answer: Result<(Ontology, Verdict), CheckFault>,
+    answer: Result<Checked, CheckFault>,
     paths: &Paths<'_>,
     limits: &Limits,
     out: &mut O,
@@ -121,7 +149,7 @@ fn tell_checked<O: Sink, E: Sink>(
         (outputs O.Sink E.Sink out.old err.old) (outputs O.Sink E.Sink out.new err.new) result }
 {
     match answer {
-        Ok((ontology, verdict)) => print_verdict(out, &ontology, &verdict),
+        Ok(checked) => print_verdict(out, &checked.ontology, &checked.verdict),
         Err(fault) => tell(err, check_message(alloc, &fault, paths, limits)),
     }
 }

@@ -8,8 +8,8 @@ ghost use Rattle.session.specs.Sessions.{as_read};
 ghost use Rattle.std.specs.Prelude.{◌≡◌, [], IfErr, IfOk};
 
 use crate::filing::{FileService, converse_over_files};
-use crate::opening::document_of;
-use crate::printing::tell;
+use crate::printing::{tell, tell_out_of_memory};
+use crate::sources::source_of;
 use command_line::Command;
 use device::Sink;
 use profile::{DocumentFault, Limits};
@@ -36,10 +36,10 @@ fn session_in<F: Files>(
     ensures refused { IfErr result (RefusesKnown limits.now.version (F.content files.now path.now) limits.now.max_bytes) }
     ensures blames { IfErr result (BlamesFile F.reads_fail (F.is_known files.now) (F.content files.now path.now)) }
 {
-    match document_of(files, path) {
-        Ok(mut document) => Session::open(alloc, &mut document, limits, state),
-        Err(fault) => Err(fault),
-    }
+    let Ok(mut document) = source_of(files, path) else {
+        return Err(DocumentFault::Memory);
+    };
+    Session::open(alloc, &mut document, limits, state)
 }
 
 /// Tells what was read, where progress is told.
@@ -70,9 +70,9 @@ pub(crate) fn perform_session<F: Files, O: Sink, E: Sink>(
         Err(fault) => return tell(err, document_message(alloc, &fault, path, limits)),
     };
     tell_opened(&session, told, err);
-    let mut input = match document_of(files, INPUT) {
-        Ok(input) => input,
-        Err(fault) => return tell(err, document_message(alloc, &fault, INPUT, limits)),
+    session.well_formed();
+    let Ok(mut input) = source_of(files, INPUT) else {
+        return tell_out_of_memory(err);
     };
     let mut service = SessionService {
         alloc,

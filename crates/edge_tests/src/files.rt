@@ -4,24 +4,21 @@ use device::{Failed, ReadFault, read_all, write_all};
 use std::fs;
 use std::process::Abort;
 use std::test::Fail;
-use system_files::{Files, MemoryFiles, OpenFault, SystemFiles};
+use system_files::{Files, MemoryFiles, SystemFiles};
 
 const PATH: &str = "system_files_test.txt";
 
 /// A path into a folder that is absent, and that of a folder.
 const NO_FILES: &[&str] = &["system_files_absent/file.txt", "."];
 
-/// What the file at the path holds, if it can be read. One that is missing is as one that fails.
+/// What the file at the path holds, if it can be read.
 fn read<R: AllocGlobal, F: Files>(
     rt: &R,
     files: &F,
     path: &str,
 ) -> Result<Result<Vec<u8>, ReadFault>, Fail> {
-    match files.reader(path) {
-        Ok(mut source) => Ok(read_all(rt.alloc(), &mut source, 100)),
-        Err(OpenFault::Missing) => Ok(Err(ReadFault::Failed)),
-        Err(OpenFault::Memory) => Ok(Err(ReadFault::Memory)),
-    }
+    let mut source = files.reader(path)?;
+    Ok(read_all(rt.alloc(), &mut source, 100))
 }
 
 const TEXTS: &[&[u8]] = &[b"consistent classes 4\n", b"short\n"];
@@ -85,7 +82,7 @@ fn files_in_memory_are_read(rt: HostRuntime) -> Result<(), Fail> {
     let bytes = read(&rt, &files, "b")??;
     assert!(rt; bytes.as_slice() == b"two".as_slice());
     assert!(rt; files.bytes("a") == Some(b"three".as_slice()));
-    assert!(rt; files.reader("c").err() == Some(OpenFault::Missing));
+    assert!(rt; read(&rt, &files, "c")?.err() == Some(ReadFault::Failed));
     Ok(())
 }
 

@@ -1,5 +1,5 @@
 -- Sinks as far as they can be seen, and sources of documents.
-use Rattle.std.specs.Prelude.{◌≡◌, ℕ, List, Option}
+use Rattle.std.specs.Prelude.{◌≡◌, ℕ, List, Option, Result, Ok, Err}
 use Rattle.std.specs.Io.KnownBytes.{Appends}
 use Rattle.device.specs.declared.device.Sink.{Ghosts}
 use Rattle.device.specs.Device.{AppendsPrefix, HasFailed}
@@ -34,3 +34,8 @@ IsReadUntil Io old new = FailsInReading old new
 IsReadUntil TooLarge old new = IsReadOn old new
 IsReadUntil Memory old new = IsReadOn old new
 IsReadUntil fault old new = IsReadToItsEnd old new
+
+-- what was read of a document: all of it, where it was read as what it is; or until this fault
+abbrev pub IsReadIn : {X : Type 0} → Result X DocumentFault → (old new : SourceState) → Type 0
+IsReadIn (Ok x) old new = IsReadToItsEnd old new
+IsReadIn (Err fault) old new = IsReadUntil fault old new

@@ -1,5 +1,6 @@
 -- What files hold, by their paths, and what becomes of that where they are read or written.
-use Rattle.std.specs.Prelude.{◌≡◌, ◌⊎◌, ℕ, List, [], ◌∷◌, Bool, true, false, Option, Some, None, IsSome, inl, inr, length, refl, if◌then◌else◌}
+use Rattle.std.specs.Prelude.{◌≡◌, ◌⊎◌, ℕ, List, [], ◌∷◌, Bool, true, false, Option, Some, None, IsSome, length, refl, if◌then◌else◌}
+use Rattle.std.proofs.Common.{inl, inr}
 use Rattle.std.specs.Io.KnownBytes.{IsAtEnd}
 
 -- the bytes of the file at a path: `None` where there is none, or where they are not known
@@ -69,12 +70,12 @@ abbrev pub most_of : (is_missing : Bool) → (rest : List ℕ) → ℕ
 most_of true rest = 0
 most_of false rest = length rest
 
-not_nothing : 0 ∷ [] ≡ [] → ⊥
-not_nothing bad = absurd (cc)
+not_nothing : (b : ℕ) → b ∷ [] ≡ [] → ⊥
+not_nothing b bad = absurd (cc)
 
 -- a source in memory has not failed, or is that of a file that is missing
 pub unfailed_or_stuck : (is_missing : Bool) (rest : List ℕ) (failures : ℕ) → (if is_missing then 0 else failures) ≡ 0 → (failures ≡ 0) ⊎ IsStuck (Some (left_of is_missing rest)) (most_of is_missing rest)
-unfailed_or_stuck true rest failures is = inr (record { none = refl; before_end = not_nothing })
+unfailed_or_stuck true rest failures is = inr (record { none = refl; before_end = not_nothing 0 })
 unfailed_or_stuck false rest failures is = inl is
 
 pub not_false : {P : Type 0} → true ≡ false → P

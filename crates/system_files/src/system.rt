@@ -62,11 +62,12 @@ impl<'r, R: rt::Files + AllocGlobal> Files for SystemFiles<'r, R> {
     ghost unfailing = { λ bad _. not_false bad };
 
     fn reader(&self, path: &str) -> Result<Self::In, Memory> {
-        Ok(ReaderSource::new(FileReader {
+        let file = FileReader {
             runtime: self.runtime,
             path: self.owned(path)?,
             file: None,
-        }))
+        };
+        Ok(ReaderSource::new(file))
     }
 
     fn writer(&mut self, path: &str) -> Result<Self::Out, Memory> {

@@ -1,7 +1,7 @@
 //! Certificates made by hand, of documents with individuals and disjoint classes, checked through whole runs.
 
 use super::*;
-use cli::{CheckFault, Limits, Verdict, Version, check_document};
+use cli::{CheckFault, Checked, Limits, Verdict, Version, check_document};
 use device::SliceSource;
 
 const CONTRADICTION: &[u8] =
@@ -31,16 +31,21 @@ fn is_accepted<R: AllocGlobal + RandomSource>(
     (taxonomy, instances): (&str, &str),
     certificate: &str,
 ) -> Result<bool, Fail> {
-    let verdict: Result<Verdict, CheckFault> = check_document(
+    let checked: Result<Checked, CheckFault> = check_document(
         rt.alloc(),
         &mut SliceSource::new(document),
         &mut SliceSource::new(taxonomy.as_bytes()),
         &mut SliceSource::new(instances.as_bytes()),
         &mut SliceSource::new(certificate.as_bytes()),
         &LIMITS,
+        false,
+        &mut BufferSink::new(rt.alloc()),
         RandomState::new(rt)?,
     );
-    Ok(matches!(verdict, Ok(Verdict::Accepted)))
+    match checked {
+        Ok(checked) => Ok(checked.verdict == Verdict::Accepted),
+        Err(_) => Ok(false),
+    }
 }
 
 /// Whether a run that checks these texts of the document prints this, and the checker accepts them where the status is 0.

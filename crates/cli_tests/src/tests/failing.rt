@@ -65,6 +65,8 @@ fn classified<R: AllocGlobal + RandomSource>(
         &mut certificate,
         &LIMITS,
         Format::Two,
+        false,
+        &mut BufferSink::new(alloc),
         state,
     );
     let answer = match classified {
@@ -100,10 +102,12 @@ fn checked<R: AllocGlobal + RandomSource>(
         &mut instances,
         &mut certificate,
         &LIMITS,
+        false,
+        &mut BufferSink::new(rt.alloc()),
         RandomState::new(rt)?,
     );
     let answer = match checked {
-        Ok(verdict) => Ok(verdict),
+        Ok(checked) => Ok(checked.verdict),
         Err(CheckFault::Document(DocumentFault::Io)) => Err(1),
         Err(CheckFault::Io(number)) => Err(number),
         Err(_) => Err(NOWHERE),

@@ -3,7 +3,7 @@
 //! The test holds whichever one allocation of it is refused; where none is, it holds, too.
 
 use cli::{ClassifyFault, DocumentFault, Format, Limits, Summary, Version, classify_document};
-use device::{SliceSource, WriterSink};
+use device::{BufferSink, SliceSource, WriterSink};
 use std::alloc::Global;
 use std::hash::RandomState;
 use std::test::Fail;
@@ -109,6 +109,8 @@ fn classify(
         &mut certificate,
         &LIMITS,
         Format::Two,
+        false,
+        &mut BufferSink::new(alloc),
         state,
     )
 }

@@ -2,7 +2,7 @@
 
 use axioms::Memory;
 use device::{Failed, Sink, Source};
-use system_files::{Files, MemoryFiles, MemorySink, MemorySource, OpenFault};
+use system_files::{Files, MemoryFiles, MemorySink, MemorySource};
 
 /// A sink of a file in memory that takes one byte a write, and fails after some writes.
 #[derive(Drop)]
@@ -104,18 +104,17 @@ impl Files for FailingFiles {
 
     ghost untaken = { λ _ shut. not_true shut };
 
+    ghost all_known = { λ bad _. not_false bad };
+
     ghost unfailing = { λ bad _. not_false bad };
 
-    fn reader(&self, path: &str) -> Result<Self::In, OpenFault> {
+    fn reader(&self, path: &str) -> Result<Self::In, Memory> {
         let reads = self.calls_of(path);
-        match self.inner.reader(path) {
-            Ok(inner) => Ok(FailingFileSource {
-                inner,
-                reads,
-                failures: 0,
-            }),
-            Err(fault) => Err(fault),
-        }
+        Ok(FailingFileSource {
+            inner: self.inner.reader(path)?,
+            reads,
+            failures: 0,
+        })
     }
 
     fn writer(&mut self, path: &str) -> Result<Self::Out, Memory> {

@@ -4,7 +4,7 @@ use Rattle.session.proofs.Told.{progress_behind}
 use Rattle.session.specs.Run.{IsRunFault}
 use Rattle.session.specs.WrittenTexts.{texts_of}
 use Rattle.session.specs.declared.run_fault.RunFault.{RunFault}
-use Rattle.cli.proofs.classifying.classify_telling.Goals as goal
+use Rattle.cli.proofs.classifying.classify_document.Goals as goal
 
 pub returns-in-Err-Limit-clause-answered : goal.returns-in-Err-Limit-clause-answered
 returns-in-Err-Limit-clause-answered g c =

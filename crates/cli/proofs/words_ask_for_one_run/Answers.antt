@@ -1,0 +1,5 @@
+use Rattle.cli.proofs.FilesAccepted.{words_check, words_classify}
+use Rattle.cli.proofs.words_ask_for_one_run.Goals as goal
+
+pub returns : goal.returns
+returns c = record { check = words_check; classify = words_classify }

@@ -1,0 +1,38 @@
+-- Which run of a command words of the program ask for.
+use Rattle.std.specs.Prelude.{◌≡◌, ◌⊎◌, ℕ, List, true}
+use Rattle.clap.specs.Words.{Text, takes}
+use Rattle.cli.specs.Files.{Store}
+use Rattle.cli.specs.Messages.{BehindProgress, Output, IsLineTold}
+use Rattle.cli.specs.Runs.{IsCheckRun, IsClassifyRun, IsPerformed, format_of}
+use Rattle.cli.specs.Theorems.{AreSamePaths}
+use Rattle.command_line.specs.CommandLine.{IsTaskOf, elc_app}
+use Rattle.command_line.specs.declared.tasks.Command.TheVariants.{Check, Classify}
+use Rattle.command_line.specs.declared.tasks.FormatNumber.{FormatNumber}
+use Rattle.command_line.specs.declared.tasks.LineFault.TheVariants as line
+use Rattle.command_line.specs.declared.tasks.Paths.{Paths}
+use Rattle.command_line.specs.declared.tasks.Task.{Task}
+use Rattle.program.specs.declared.limits.Limits.{Limits}
+use Rattle.system_files.specs.Contents.{Content}
+
+-- a run of the program whose words ask for a check of these paths is a run of `check` on the same paths within the limits that the words
+-- set, behind its progress; or memory was refused for reading the words
+abbrev pub WordsOfCheckCheck : Type 0
+WordsOfCheckCheck =
+    (words : List Text) (task : Task) (paths : Paths) (s : Store) (content content' : Content) (old new : Output) (status : ℕ) →
+    IsTaskOf words task → task.command ≡ Check paths → takes elc_app words ≡ true → IsPerformed words s content content' old new status →
+    BehindProgress task.progress old (λ begun. (paths' : Paths) × AreSamePaths paths paths' × IsCheckRun paths' task.limits.version task.limits.max_bytes s content begun new status)
+    ⊎ ((new.out ≡ old.out) × IsLineTold line.Memory old.err new.err status)
+
+-- both are the same numbers and the same version
+pub record AreSameLimits (l m : Limits) : Type 0 where
+  pub bytes : l.max_bytes ≡ m.max_bytes
+  pub facts : l.max_facts ≡ m.max_facts
+  pub version : l.version ≡ m.version
+
+-- and one whose words ask for a classification is a run of `classify`, in the format that the words set
+abbrev pub WordsOfClassifyClassify : Type 0
+WordsOfClassifyClassify =
+    (words : List Text) (task : Task) (paths : Paths) (number : FormatNumber) (s : Store) (content content' : Content) (old new : Output) (status : ℕ) →
+    IsTaskOf words task → task.command ≡ Classify paths number → takes elc_app words ≡ true → IsPerformed words s content content' old new status →
+    BehindProgress task.progress old (λ begun. (paths' : Paths) × (limits : Limits) × AreSamePaths paths paths' × AreSameLimits limits task.limits × IsClassifyRun paths' (format_of number) limits s content content' begun new status)
+    ⊎ ((new.out ≡ old.out) × IsLineTold line.Memory old.err new.err status)
