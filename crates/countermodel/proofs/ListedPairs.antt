@@ -133,7 +133,7 @@ module _ (o : Ontology) (s : Saturated) (saturated : IsSaturated o s) (k : Known
   has_property x y q there =
       let f = facts.Edge x q y in
       let (n, at) = slice_get-from_Contains s.state.facts f there in
-      edge_has s.state.problem closed saturated.born (n ∷ n ∷ []) (f ∷ f ∷ []) q (ap (λ z. z ∷ z ∷ []) at) refl
+      edge_has s.state.problem closed saturated.state.born (n ∷ n ∷ []) (f ∷ f ∷ []) q (ap (λ z. z ∷ z ∷ []) at) refl
 
   sayer_edge : (x y : Context) (q r m n : ℕ) → slice_get elements m ≡ Some x → slice_get elements n ≡ Some y → IsAtOrBelow o asked (Property q) (Property r)
       → (f : code_fact.Fact) → Contains s.state.facts f → SaysFact begun f (Edge x (Property q) y) → IsGivenBy k elements f (pair r m n)

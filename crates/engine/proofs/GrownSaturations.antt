@@ -20,7 +20,8 @@ use Rattle.normalise.proofs.Adding.{keeps_long}
 use Rattle.normalise.proofs.AddingRoots.{roots_with_it}
 use Rattle.normalise.proofs.FreshNames.{kept_front}
 use Rattle.saturate.specs.Growth.{HasGrown}
-use Rattle.saturate.specs.State.{Seen, AreBorn}
+use Rattle.saturate.specs.Run.{IsState}
+use Rattle.saturate.specs.State.{Seen}
 use Rattle.engine.specs.Saturations.{IsSound, Saturated}
 use Rattle.engine.proofs.Saturating.{is_problem, is_sound}
 
@@ -36,7 +37,7 @@ still_asked : (o p : Ontology) (asked : List ℕ) → Keeps o.nodes p.nodes → 
 still_asked o p asked nodes are = All-weaker (λ e. e < length o.nodes) (λ e. e < length p.nodes) (λ e l. omega (arith, l, keeps_long o.nodes p.nodes nodes)) asked are
 
 module _ (o p : Ontology) (w : IsOntology o) (old : Saturated) (v : Listing) (new : Seen) (b : Bool) (classes individuals : ℕ) (roots : List Context)
-    (sound : IsSound o old) (normal : IsNormalFor p v) (grown : Grown old.normal v) (names : HasMoreNames o p classes individuals) (again : AreRootsAgain p classes individuals roots) (born : AreBorn new) where
+    (sound : IsSound o old) (normal : IsNormalFor p v) (grown : Grown old.normal v) (names : HasMoreNames o p classes individuals) (again : AreRootsAgain p classes individuals roots) (state : IsState new) where
   abbrev new_forms : List Form
   new_forms = drop (length (map form_in old.normal.entries)) (map form_in v.entries)
 
@@ -45,7 +46,7 @@ module _ (o p : Ontology) (w : IsOntology o) (old : Saturated) (v : Listing) (ne
   sound_by more asked are has =
       let forms : new.problem.forms ≡ map form_in v.entries =
       ap (λ (k : Problem). k.forms) has.problem ∙ ap (λ fs. fs ++ new_forms) (sym (old_first o old v sound grown)) ∙ take-append-drop (length (map form_in old.normal.entries)) (map form_in v.entries) in
-      is_sound p v new b normal asked forms (is_problem p v (old.state.problem.roots ++ more) new.problem normal are forms (ap (λ (k : Problem). k.roots) has.problem)) born
+      is_sound p v new b normal asked forms (is_problem p v (old.state.problem.roots ++ more) new.problem normal are forms (ap (λ (k : Problem). k.roots) has.problem)) state
 
   asked_before : AreAsked p old.normal.asked
   asked_before = still_asked o p old.normal.asked names.nodes sound.asked

@@ -4,9 +4,7 @@ use Rattle.std.proofs.lemmas.List.Elements.{All-nil}
 use Rattle.lemmas.proofs.Members.{slice_get-from_Contains}
 use Rattle.axioms.specs.Ontology.{Ontology}
 use Rattle.normal_forms.specs.declared.forms.Form.{Form}
-use Rattle.facts.specs.Births.{Reason}
 use Rattle.facts.specs.declared.contexts.Context.{Context}
-use Rattle.facts.specs.declared.contexts.Fact.{Fact}
 use Rattle.facts.specs.Closure.{Problem}
 use Rattle.closure.specs.Closure.{AreAsked}
 use Rattle.closure.specs.Denotations.{IsProblemOf}
@@ -18,6 +16,7 @@ use Rattle.normalise.specs.Problem.{prefixes_of}
 use Rattle.normalise.specs.Roots.{AreRoots}
 use Rattle.normalise.proofs.ProblemForms.{makes_the_problem}
 use Rattle.saturate.specs.Growth.{HasGrown, KeepsServed, with_more}
+use Rattle.saturate.specs.Run.{IsState}
 use Rattle.saturate.specs.State.{Seen, AreBorn, nothing_seen}
 use Rattle.inference.specs.Completeness.{IsClosure}
 use Rattle.inference.specs.Derivations as derived
@@ -45,33 +44,31 @@ says_facts o v s problem born f there =
     let (n, at) = slice_get-from_Contains s.facts f there in
     said o v.asked (prefixes_of v) s.problem problem f (sound born n f at)
 
--- facts that are born of the forms of the ontology and of what is asked about are of their closure
-pub is_sound : (o : Ontology) (v : Listing) (s : Seen) (b : Bool) → IsNormalFor o v → AreAsked o v.asked → s.problem.forms ≡ map form_in v.entries → IsProblemOf o v.asked (prefixes_of v) s.problem → AreBorn s
+-- the facts of a state by the forms of the ontology and of what is asked about are of their closure
+pub is_sound : (o : Ontology) (v : Listing) (s : Seen) (b : Bool) → IsNormalFor o v → AreAsked o v.asked → s.problem.forms ≡ map form_in v.entries → IsProblemOf o v.asked (prefixes_of v) s.problem → IsState s
     → IsSound o (record { normal = v; state = s; can_grow = b })
-is_sound o v s b normal asked forms problem born = record { normal = normal; asked = asked; forms = forms; problem = problem; facts = says_facts o v s problem born; born = born }
+is_sound o v s b normal asked forms problem state = record { normal = normal; asked = asked; forms = forms; problem = problem; facts = says_facts o v s problem state.born; state = state }
 
--- in another state of the same problem, facts that are born of its forms are of the closure too
-pub still_sound : (o : Ontology) (v : Listing) (s t : Seen) (b b' : Bool) → IsSound o (record { normal = v; state = s; can_grow = b }) → t.problem ≡ s.problem → AreBorn t → IsSound o (record { normal = v; state = t; can_grow = b' })
-still_sound o v s t b b' h same born = is_sound o v t b' h.normal h.asked
+-- in another state of the same problem they are of the closure too
+pub still_sound : (o : Ontology) (v : Listing) (s t : Seen) (b b' : Bool) → IsSound o (record { normal = v; state = s; can_grow = b }) → t.problem ≡ s.problem → IsState t → IsSound o (record { normal = v; state = t; can_grow = b' })
+still_sound o v s t b b' h same state = is_sound o v t b' h.normal h.asked
     (ap (λ (k : Problem). k.forms) same ∙ h.forms)
     (subst (IsProblemOf o v.asked (prefixes_of v)) (sym same) h.problem)
-    born
+    state
 
 -- where they are all that the forms lead to, they are the closure
 pub is_saturated : (o : Ontology) (v : Listing) (s : Seen) (b : Bool) → IsSound o (record { normal = v; state = s; can_grow = b }) → IsClosure s.problem s.facts → IsSaturated o (record { normal = v; state = s; can_grow = b })
-is_saturated o v s b h closure = record { normal = h.normal; asked = h.asked; forms = h.forms; problem = h.problem; facts = says_the_closure o v s h.problem closure; born = h.born }
+is_saturated o v s b h closure = record { normal = h.normal; asked = h.asked; forms = h.forms; problem = h.problem; facts = says_the_closure o v s h.problem closure; state = h.state }
 
--- a state with the same problem, facts and births is saturated too, whichever were served
-pub saturated_still : (o : Ontology) (v : Listing) (s t : Seen) (b b' : Bool) → t.problem ≡ s.problem → t.facts ≡ s.facts → t.births ≡ s.births → IsSaturated o (record { normal = v; state = s; can_grow = b }) → IsSaturated o (record { normal = v; state = t; can_grow = b' })
-saturated_still o v s t b b' problem facts births h = record {
+-- a state with the same problem and facts is saturated too, whichever were served
+pub saturated_still : (o : Ontology) (v : Listing) (s t : Seen) (b b' : Bool) → t.problem ≡ s.problem → t.facts ≡ s.facts → IsState t → IsSaturated o (record { normal = v; state = s; can_grow = b }) → IsSaturated o (record { normal = v; state = t; can_grow = b' })
+saturated_still o v s t b b' problem facts state h = record {
   normal = h.normal;
   asked = h.asked;
   forms = ap (λ (k : Problem). k.forms) problem ∙ h.forms;
   problem = subst (IsProblemOf o v.asked (prefixes_of v)) (sym problem) h.problem;
   facts = subst (SayTheClosure o v.asked (prefixes_of v)) (sym facts) h.facts;
-  born = subst (λ (k : Problem). derived.IsDerived k (record { facts = t.facts; births = t.births })) (sym problem)
-      (subst (λ (fs : List Fact). derived.IsDerived s.problem (record { facts = fs; births = t.births })) (sym facts)
-      (subst (λ (rs : List Reason). derived.IsDerived s.problem (record { facts = s.facts; births = rs })) (sym births) h.born));
+  state = state;
 }
 
 pub has_more : (o : Ontology) (v : Listing) (s : Seen) (b : Bool) (most : ℕ) → IsSound o (record { normal = v; state = s; can_grow = b }) → derived.HasMoreFactsThan s.problem most → HasMoreFactsThan o v.asked most

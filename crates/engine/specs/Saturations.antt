@@ -19,8 +19,9 @@ use Rattle.inference.specs.declared.known_facts.Stop.{Stop}
 use Rattle.inference.specs.declared.known_facts.Stop.TheVariants.{Limit, Memory}
 use Rattle.inference.specs.Derivations.{Keeps}
 use Rattle.saturate.specs.Growth.{KeepsServed}
-use Rattle.saturate.specs.State.{Seen, AreBorn, Extends}
-use Rattle.saturate.specs.Run.{IsRun, IsRunUntil}
+use Rattle.saturate.specs.Requests.{IsAskedAt}
+use Rattle.saturate.specs.Run.{IsRun, IsRunUntil, IsState}
+use Rattle.saturate.specs.State.{Seen, Extends}
 
 -- normal forms, what they lead to, and whether more may be added
 pub record Saturated : Type 0 where
@@ -37,7 +38,7 @@ abbrev pub SayFactsOfTheClosure : Ontology → List ℕ → Prefixes → List co
 SayFactsOfTheClosure o asked b facts = (f : code.Fact) → Contains facts f → (g : Fact) × SaysFact b f g × IsFact o asked g
 
 -- the normal forms are those of the ontology and of what is asked about, and the facts are of their closure, each once and with what
--- gave it: there may be more
+-- gave it, and some of them are served, each once: there may be more
 pub record IsSound (o : Ontology) (s : Saturated) : Type 0 where
   pub normal : IsNormalFor o s.normal
   -- what is asked about is there
@@ -46,7 +47,7 @@ pub record IsSound (o : Ontology) (s : Saturated) : Type 0 where
   pub forms : s.state.problem.forms ≡ map form_in s.normal.entries
   pub problem : IsProblemOf o s.normal.asked (prefixes_of s.normal) s.state.problem
   pub facts : SayFactsOfTheClosure o s.normal.asked (prefixes_of s.normal) s.state.facts
-  pub born : AreBorn s.state
+  pub state : IsState s.state
 
 -- all facts are served
 abbrev pub IsFinished : Saturated → Type 0
@@ -58,7 +59,7 @@ pub record SayTheClosure (o : Ontology) (asked : List ℕ) (b : Prefixes) (facts
   pub all : (g : Fact) → IsFact o asked g → (f : code.Fact) × Contains facts f × SaysFact b f g
 
 -- the normal forms are those of the ontology and of what is asked about, and the facts all that they lead to, each once and with what
--- gave it
+-- gave it, and some of them are served, each once
 pub record IsSaturated (o : Ontology) (s : Saturated) : Type 0 where
   pub normal : IsNormalFor o s.normal
   -- what is asked about is there
@@ -67,7 +68,7 @@ pub record IsSaturated (o : Ontology) (s : Saturated) : Type 0 where
   pub forms : s.state.problem.forms ≡ map form_in s.normal.entries
   pub problem : IsProblemOf o s.normal.asked (prefixes_of s.normal) s.state.problem
   pub facts : SayTheClosure o s.normal.asked (prefixes_of s.normal) s.state.facts
-  pub born : AreBorn s.state
+  pub state : IsState s.state
 
 -- the closure of the ontology and of what is asked about has more than n facts: a list has so many that differ
 pub record HasMoreFactsThan (o : Ontology) (asked : List ℕ) (n : ℕ) : Type 0 where
@@ -102,6 +103,10 @@ pub record BringsNothing (old new : Problem) : Type 0 where
   pub forms : (form : Form) → Contains new.forms form → Contains old.forms form
   pub roots : (x : Context) → Contains new.roots x → Contains old.roots x
 
+-- no form to which none was equal before asks for a served fact
+abbrev pub AsksForNoServed : (old new : Seen) → Type 0
+AsksForNoServed old new = (n : ℕ) → Contains old.served n → ¬ IsAskedAt old.problem.forms new.problem.forms old.facts n
+
 -- forms, and what fresh names stand for, keep their numbers; facts stay at their places, with what gave them; and exactly the served
 -- facts that a form asks for to which none was equal before are pending again
 pub record KeepsFacts (old new : Saturated) : Type 0 where
@@ -109,6 +114,8 @@ pub record KeepsFacts (old new : Saturated) : Type 0 where
   pub facts : Keeps old.state.facts new.state.facts
   pub births : Keeps old.state.births new.state.births
   pub served : KeepsServed old.state.problem.forms new.state.problem.forms old.state.facts old.state.served new.state.served
+  -- where none of these asks for a served fact, as many are served as before
+  pub stay : AsksForNoServed old.state new.state → length new.state.served ≡ length old.state.served
   -- where nothing is new, all facts are served if they were
   pub idle : BringsNothing old.state.problem new.state.problem → IsFinished old → IsFinished new
 

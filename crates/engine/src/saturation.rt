@@ -96,10 +96,12 @@ impl Saturation {
             normal,
             state,
         } = self;
+        let state = state.release();
+        state.well_formed();
         Saturation {
             alloc,
             normal,
-            state: state.release(),
+            state,
         }
     }
 

@@ -18,7 +18,8 @@ pub record IsAddition (old : Opened) (text : List ℕ) (new : Opened) : Type 0 w
   pub prefixes : new.prefixes ≡ old.prefixes
   pub most_bytes : new.most_bytes ≡ old.most_bytes
   pub version : new.version ≡ old.version
-  -- facts are kept, and exactly the served ones that a new form asks for are pending again
+  -- facts are kept, and exactly the served ones that a new form asks for are pending again: where there are none, as many are served
+  -- as before
   pub facts : KeepsFacts old.saturation new.saturation
 
 -- what the fault says of a text that is not added: too many bytes, or not too many and what the fault says of the text

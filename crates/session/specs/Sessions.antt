@@ -18,8 +18,8 @@ pub record Opened : Type 0 where
   pub most_bytes : ℕ
   pub version : Version
 
--- what holds at any time: the facts are facts of the ontology's closure, each once, with nothing asked about, and more may be added; the
--- ontology is well formed and that of some statements; and there are no more bytes than there may be
+-- what holds at any time: the facts are facts of the ontology's closure, each once, with nothing asked about, some of them are served,
+-- each once, and more may be added; the ontology is well formed and that of some statements; and there are no more bytes than there may be
 pub record IsOpen (s : Opened) : Type 0 where
   pub sound : IsSound s.ontology s.saturation
   pub unasked : IsUnasked s.saturation

@@ -22,7 +22,8 @@ impl Session {
 
     /// Adds what the text states, axioms and declarations without an `Ontology( .. )` around them, whose names are expanded with the
     /// prefixes of the document, read in the session's version. Nothing is run: each fact stays at its place, and those that something new asks for are pending again.
-    /// Where the text brings nothing new, nothing is pending that was not before.
+    /// Where nothing new asks for a served fact, as many are served as before; where the text brings nothing new, nothing is pending that
+    /// was not before.
     ///
     /// # Errors
     ///

@@ -138,8 +138,8 @@ impl Session {
         self.saturation.resume(max_facts)
     }
 
-    /// Its facts are facts of the closure of its ontology, each once; and where nothing is pending, they are the closure. It may be
-    /// added to, and it has no more bytes than the limit.
+    /// Its facts are facts of the closure of its ontology, each once, of which some are served, each once; and where nothing is pending,
+    /// they are the closure. It may be added to, and it has no more bytes than the limit.
     pub fn well_formed(&self)
         ensures session { IsSession self.now }
         ensures sound { IsSound self.now.ontology self.now.saturation }

@@ -11,7 +11,7 @@ use Rattle.normalise.specs.Roots.{HasMoreNames}
 use Rattle.normalise.proofs.Adding.{keeps_long}
 use Rattle.saturate.specs.Growth.{HasGrown}
 use Rattle.engine.specs.Saturations.{IsSound, Saturated}
-use Rattle.engine.proofs.NothingNew.{still_finished}
+use Rattle.engine.proofs.NothingNew.{as_many_served, still_finished}
 use Rattle.engine.proofs.GrownSaturations.{asked_sound, old_first}
 use Rattle.engine.proofs.saturation.Saturation.asked.Goals as goal
 
@@ -41,7 +41,7 @@ returns-clause-sound c =
     rw (← count) (rw (← c.forms-2.ensures) (rw (← c.in_ok-push.ensures.items) (rw (← c.deref.ensures.value) c.in_ok-state.ensures.grown))) in
     let classes = length c.classes.result.now in let individuals = length c.individuals.result.now in
     let names : HasMoreNames o p classes individuals = record { nodes = c.requires.grows.nodes; names = c.requires.names; new_classes = c.classes.ensures.count; new_individuals = c.individuals.ensures.count } in
-    asked_sound o p c.well_formed-2.ensures old v c.in_ok-state.state.seen c.in_ok-state.state.can_grow classes individuals roots sound normal kept names c.in_ok-roots.ensures.again c.in_ok-state.ensures.state.born
+    asked_sound o p c.well_formed-2.ensures old v c.in_ok-state.state.seen c.in_ok-state.state.can_grow classes individuals roots sound normal kept names c.in_ok-roots.ensures.again c.in_ok-state.ensures.state
     c.args.expr n numbers c.requires.there has
 
 pub returns-clause-kept : goal.returns-clause-kept
@@ -50,5 +50,6 @@ returns-clause-kept c = rw (← c.self.view_is) (record {
   facts = c.in_ok-state.ensures.grown.facts;
   births = c.in_ok-state.ensures.grown.births;
   served = c.in_ok-state.ensures.served;
+  stay = as_many_served c.self.inside.state.seen c.in_ok-state.state.seen c.well_formed-3.ensures.state c.in_ok-state.ensures.state c.in_ok-state.ensures.served;
   idle = λ nothing all. still_finished c.self.inside.state.seen c.in_ok-state.state.seen nothing c.well_formed-3.ensures.state c.in_ok-state.ensures.state all c.in_ok-state.ensures.served;
 })

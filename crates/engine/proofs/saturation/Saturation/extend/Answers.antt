@@ -6,7 +6,7 @@ use Rattle.normalise.specs.Listing.{Listing}
 use Rattle.normalise.proofs.Adding.{keeps_long}
 use Rattle.saturate.specs.Growth.{HasGrown}
 use Rattle.engine.specs.Saturations.{IsSound, Saturated}
-use Rattle.engine.proofs.NothingNew.{still_finished}
+use Rattle.engine.proofs.NothingNew.{as_many_served, still_finished}
 use Rattle.engine.proofs.GrownSaturations.{extended_sound, old_first}
 use Rattle.engine.proofs.saturation.Saturation.extend.Goals as goal
 
@@ -33,7 +33,7 @@ returns-clause-sound c =
     let count : c.len.result ≡ length (map form_in c.self.inside.normal.entries) = c.len.ensures ∙ ap length c.forms-2.ensures in
     let has : HasGrown (drop (length (map form_in c.self.inside.normal.entries)) (map form_in v.entries)) c.in_ok-roots.roots.items c.self.inside.state.seen c.extend.new.self.seen =
     rw (← count) (rw (← c.forms.ensures) (rw (← c.deref.ensures.value) c.in_ok-extend.ensures.grown)) in
-    extended_sound o p of.whole old v c.extend.new.self.seen c.extend.new.self.can_grow c.args.old.classes c.args.old.individuals c.in_ok-roots.roots.items sound normal kept of.names c.in_ok-roots.ensures.again c.in_ok-extend.ensures.state.born
+    extended_sound o p of.whole old v c.extend.new.self.seen c.extend.new.self.can_grow c.args.old.classes c.args.old.individuals c.in_ok-roots.roots.items sound normal kept of.names c.in_ok-roots.ensures.again c.in_ok-extend.ensures.state
     asked has
 
 pub returns-clause-kept : goal.returns-clause-kept
@@ -42,5 +42,6 @@ returns-clause-kept c = rw (← c.self.view_is) (record {
   facts = c.in_ok-extend.ensures.grown.facts;
   births = c.in_ok-extend.ensures.grown.births;
   served = c.in_ok-extend.ensures.served;
+  stay = as_many_served c.self.inside.state.seen c.extend.new.self.seen c.well_formed-2.ensures.state c.in_ok-extend.ensures.state c.in_ok-extend.ensures.served;
   idle = λ nothing all. still_finished c.self.inside.state.seen c.extend.new.self.seen nothing c.well_formed-2.ensures.state c.in_ok-extend.ensures.state all c.in_ok-extend.ensures.served;
 })
