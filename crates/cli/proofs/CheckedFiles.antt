@@ -49,18 +49,22 @@ text_blamed (suc (suc zero)) fails known content paths old new is of there read 
     (there, tt, unreadable fails known _ old.texts.taxonomy new.texts.taxonomy is.taxonomy of.taxonomy read.0)
 text_blamed (suc (suc (suc zero))) fails known content paths old new is of there read =
     (there, read_there known _ old.texts.taxonomy new.texts.taxonomy is.taxonomy read.0, unreadable fails known _ old.texts.instances new.texts.instances is.instances of.instances read.1)
-text_blamed (suc (suc (suc (suc zero)))) fails known content paths old new is of there read =
-    (there, (read_there known _ old.texts.taxonomy new.texts.taxonomy is.taxonomy read.0, read_there known _ old.texts.instances new.texts.instances is.instances read.1),
-     unreadable fails known _ old.texts.certificate new.texts.certificate is.certificate of.certificate read.2)
+text_blamed (suc (suc (suc (suc zero)))) fails known content paths old new is of there read = (
+  there,
+  (read_there known _ old.texts.taxonomy new.texts.taxonomy is.taxonomy read.0, read_there known _ old.texts.instances new.texts.instances is.instances read.1),
+  unreadable fails known _ old.texts.certificate new.texts.certificate is.certificate of.certificate read.2,
+)
 text_blamed (suc (suc (suc (suc (suc n))))) fails known content paths old new is of there read = absurd read
 
 pub checks_files : (fails known : Bool) (content : Content) (paths : Paths) (limit : ℕ) (old new : Sources) (answer : Result Checked CheckFault) → AreSourcesOf known content paths old → AreOfFiles fails known new → AreRead answer old new → (IsErrOf answer (checking.Document reading.TooLarge) → new.document.most + limit < old.document.most) → ChecksFiles fails known content paths answer
-checks_files fails known content paths limit old new (Ok checked) is of read beyond =
-    (read_there known _ old.document new.document is.document read.0, record {
-      taxonomy = read_there known _ old.texts.taxonomy new.texts.taxonomy is.taxonomy read.1.0;
-      instances = read_there known _ old.texts.instances new.texts.instances is.instances read.1.1;
-      certificate = certificate_there known _ checked.verdict old.texts.certificate new.texts.certificate is.certificate read.1.2;
-    })
+checks_files fails known content paths limit old new (Ok checked) is of read beyond = (
+  read_there known _ old.document new.document is.document read.0,
+  record {
+    taxonomy = read_there known _ old.texts.taxonomy new.texts.taxonomy is.taxonomy read.1.0;
+    instances = read_there known _ old.texts.instances new.texts.instances is.instances read.1.1;
+    certificate = certificate_there known _ checked.verdict old.texts.certificate new.texts.certificate is.certificate read.1.2;
+  },
+)
 checks_files fails known content paths limit old new (Err (checking.Document fault)) is of read beyond =
     read_blamed fails known _ fault limit old.document new.document is.document of.document read.0 (λ same. beyond (ap checking.Document same))
 checks_files fails known content paths limit old new (Err checking.Memory) is of read beyond = read_there known _ old.document new.document is.document read.0

@@ -136,7 +136,15 @@ pub fn check_document<D: Source, T: Source, I: Source, C: Source, W: Sink>(
         Err(fault) => return Err(CheckFault::Document(fault)),
     };
     ontology.well_formed();
-    match texts_judged(alloc, &ontology, taxonomy, instances, certificate, told, sink) {
+    match texts_judged(
+        alloc,
+        &ontology,
+        taxonomy,
+        instances,
+        certificate,
+        told,
+        sink,
+    ) {
         Ok(verdict) => Ok(Checked { ontology, verdict }),
         Err(fault) => Err(fault),
     }
