@@ -18,7 +18,7 @@ use Rattle.program.specs.declared.version.Version.{Version}
 use Rattle.shapes.specs.Faults.{axiom_faults, document_faults}
 use Rattle.session.proofs.AnyVersion.{document_states, texts_state}
 use Rattle.session.specs.Additions.{IsAddition}
-use Rattle.session.specs.Edits.{Call, Add, Resume, Superclasses, Subclasses, Equivalents, Parents, Children, Instances, Explain, Query, Write, Reply, Added, Resumed, Named, Grouped, Explained, Found, Written, IsCall, AreCalls, IsSessionOver, IsOneDocument, AreStatedBy, accepted, added, bytes_of, EditsAreOneDocument, AcceptedAlikeEndAlike, FinishedIsClosureOfAccepted}
+use Rattle.session.specs.Edits.{Call, Add, Resume, Superclasses, Subclasses, Equivalents, Parents, Children, Instances, Explain, Query, Write, Reply, Added, Resumed, Named, Grouped, Explained, Found, Written, IsCall, AreCalls, IsSessionOver, IsOneDocument, AreStatedBy, HasAccepted, AreEditedAlike, accepted, added, bytes_of, EditsAreOneDocument, AcceptedAlikeEndAlike}
 use Rattle.session.specs.Sessions.{IsSession, KeepsText, Opened}
 
 -- ---- texts one behind the other
@@ -177,5 +177,12 @@ last_session old new (call ∷ calls) (reply ∷ replies) h (mid, is, session, l
 last_session old new [] (reply ∷ replies) h are = absurd are
 last_session old new (call ∷ calls) [] h are = absurd are
 
-pub finished_is_closure : FinishedIsClosureOfAccepted
-finished_is_closure version bytes old new calls replies h are = (last_session old new calls replies h.session are).saturated
+pub is_session : (version : Version) (bytes : List ℕ) (texts : List (List ℕ)) (s : Opened) → HasAccepted version bytes texts s → IsSession s
+is_session version bytes texts s h = last_session h.opened s h.calls h.replies h.over.session h.are
+
+one_stated : (version : Version) (bytes : List ℕ) (texts : List (List ℕ)) (s : Opened) → HasAccepted version bytes texts s → IsOneDocument version bytes texts s
+one_stated version bytes texts s h =
+    subst (λ (ts : List (List ℕ)). IsOneDocument version bytes ts s) h.texts_are (edits_are_one_document version bytes h.opened s h.calls h.replies h.over h.are)
+
+pub alike : (s t : Opened) → AreEditedAlike s t → s.ontology ≡ t.ontology
+alike s t h = (accepted_alike h.version h.other h.bytes h.texts s t (one_stated h.version h.bytes h.texts s h.first) (one_stated h.other h.bytes h.texts t h.second)).0

@@ -7,6 +7,8 @@ pub mod Growing
 pub mod Asking
 pub mod AnyVersion
 pub mod Calls
+pub mod FactNumber
+pub mod Alike
 pub mod SameTexts
 pub mod Pieces
 pub mod Told

@@ -1,5 +1,6 @@
 -- Calls of a session one after the other, with their answers, and what is then there: what one document states.
-use Rattle.std.specs.Prelude.{◌≡◌, ◌+◌, ℕ, List, [], ◌∷◌, ◌++◌, Result, Ok, Err, Some, length}
+use Rattle.std.specs.Prelude.{◌≡◌, ◌↔◌, ◌+◌, ℕ, List, [], ◌∷◌, ◌++◌, Result, Ok, Err, Some, length}
+use Rattle.std.specs.List.{Contains}
 use Rattle.axioms.specs.Expression.{Iri}
 use Rattle.axioms.specs.Numbering.{Statement, IsOntologyOf}
 use Rattle.axioms.specs.Ontology.{Ontology}
@@ -9,15 +10,18 @@ use Rattle.answers.specs.declared.asked.Asked.{Asked}
 use Rattle.answers.specs.declared.explanation.Explanation.{Explanation}
 use Rattle.certificate.specs.declared.format.Format.{Format}
 use Rattle.classification.specs.declared.classification.Summary.{Summary}
-use Rattle.closure.specs.Closure.{Context}
-use Rattle.engine.specs.Saturations.{HasResumed, IsFinished, IsSaturated, Saturates}
+use Rattle.closure.specs.Closure.{Context, Fact, IsFact}
+use Rattle.closure.specs.Denotations.{SaysFact}
+use Rattle.engine.specs.Saturations.{HasResumed, IsFinished, Saturates}
 use Rattle.exactness.specs.ListedInterpretation.{IsConsistent, IsListedInterpretation}
+use Rattle.facts.specs.declared.contexts.Fact as code
 use Rattle.fs_parser.specs.Document.{Document, prefixes_of}
 use Rattle.fs_parser.specs.Name.{Prefixes}
 use Rattle.fs_parser.specs.Tree.{Trees}
 use Rattle.inference.specs.declared.known_facts.Stop.{Stop}
 use Rattle.interpretation_spec.specs.Agreement.{AgreeOn}
 use Rattle.interpretation_spec.specs.Interpretation.{Interpretation}
+use Rattle.normalise.specs.Problem.{prefixes_of as prefix_numbers}
 use Rattle.profile.specs.AddedTexts.{AreStatementsOf}
 use Rattle.profile.specs.Documents.{AreTextOf, OpensAs, ReadsAs}
 use Rattle.profile.specs.Statements.{statements}
@@ -133,6 +137,28 @@ pub record IsOneDocument (version : Version) (bytes : List ℕ) (texts : List (L
   pub well_formed : IsOntology s.ontology
   pub number : s.bytes ≡ length bytes + bytes_of texts
 
+-- the document of these bytes was opened, and of whatever calls then came these texts were accepted
+pub record HasAccepted (version : Version) (bytes : List ℕ) (texts : List (List ℕ)) (s : Opened) : Type 0 where
+  pub opened : Opened
+  pub over : IsSessionOver version bytes opened
+  pub calls : List Call
+  pub replies : List Reply
+  pub are : AreCalls opened calls replies s
+  pub texts_are : accepted calls replies ≡ texts
+
+-- sessions over one document that accepted the same texts, whatever else was called and whichever version each has
+pub record AreEditedAlike (s t : Opened) : Type 0 where
+  pub version : Version
+  pub other : Version
+  pub bytes : List ℕ
+  pub texts : List (List ℕ)
+  pub first : HasAccepted version bytes texts s
+  pub second : HasAccepted other bytes texts t
+
+-- one of the session's facts says the fact
+abbrev pub Says : Opened → Fact → Type 0
+Says s g = (f : code.Fact) × Contains s.saturation.state.facts f × SaysFact (prefix_numbers s.saturation.normal) f g
+
 -- ---- laws
 
 -- whatever calls come, and whichever are refused: what is there is what the document and the accepted texts state
@@ -148,11 +174,18 @@ AcceptedAlikeEndAlike =
     (version other : Version) (bytes : List ℕ) (texts : List (List ℕ)) (s t : Opened) → IsOneDocument version bytes texts s → IsOneDocument other bytes texts t →
     (s.ontology ≡ t.ontology) × (s.prefixes ≡ t.prefixes) × (s.bytes ≡ t.bytes)
 
--- where then nothing is pending, the facts are the closure of that ontology
-abbrev pub FinishedIsClosureOfAccepted : Type 0
-FinishedIsClosureOfAccepted =
-    (version : Version) (bytes : List ℕ) (old new : Opened) (calls : List Call) (replies : List Reply) → IsSessionOver version bytes old → AreCalls old calls replies new →
-    IsFinished new.saturation → IsSaturated new.ontology new.saturation
+-- where then nothing is pending in either, both say the same: exactly the facts of the closure of their ontology
+abbrev pub FinishedAlikeSayAlike : Type 0
+FinishedAlikeSayAlike =
+    (s t : Opened) → AreEditedAlike s t → IsFinished s.saturation → IsFinished t.saturation →
+    (g : Fact) → (Says s g ↔ IsFact s.ontology [] g) × (Says t g ↔ IsFact s.ontology [] g)
+
+-- and they write the same taxonomy and the same instances, in whatever formats their certificates are, and count the same
+abbrev pub FinishedAlikeWriteAlike : Type 0
+FinishedAlikeWriteAlike =
+    (s t : Opened) (format other_format : Format) (summary other : Summary) (texts others : Texts) → AreEditedAlike s t →
+    IsMade s format summary texts → IsMade t other_format other others →
+    (other ≡ summary) × (others.taxonomy ≡ texts.taxonomy) × (others.instances ≡ texts.instances)
 
 -- and the texts are those of a classification, in any version and format, of any document that reads in any as that ontology
 abbrev pub TextsAreThoseOfOneDocument : Type 0

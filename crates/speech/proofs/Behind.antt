@@ -2,8 +2,8 @@
 use Rattle.std.proofs.Common.{◌≡◌, [], ℕ, List, Option, Some, None, sym, subst, inr}
 use Rattle.source_lines.specs.Sources.{SourceState}
 use Rattle.speech.specs.Commands.{Spells, payload_size}
-use Rattle.speech.specs.Conversations.{Comes, ComesLine, Follows, HasSize, IsRefused, ended, size_behind, text_behind}
-use Rattle.speech.specs.Turns.{Exchanges, Hears, IsReplied, LacksBehind, LacksSized}
+use Rattle.speech.specs.Conversations.{Comes, ComesLine, Follows, HasSize, IsRefused, Point, ended, size_behind, text_behind}
+use Rattle.speech.specs.Turns.{Hears, IsOneTurn, IsReplied, LacksBehind, LacksSized}
 use Rattle.speech.specs.declared.command.Command.{Command}
 use Rattle.speech.specs.declared.hearing.Heard.{Heard}
 use Rattle.speech.specs.declared.input_fault.InputFault.{InputFault}
@@ -37,13 +37,16 @@ follows None old new s t payload h =
     (subst P (sym h.1) (subst Q (sym h.2) (comes_none old s)), h.0)
 follows (Some n) old new s t payload h = (h.comes, h.long)
 
-pub exchange_of : {V : Type 0} (G : Ghosts V) (v w : V) (line : List ℕ) (h : Heard) (old mid new : List ℕ) (s t u : SourceState) (W : List ℕ → Type 0)
-    → ComesLine old mid s t line → Hears (G.room v) line mid new t u h → IsReplied G v h.command h.payload.items w W → Exchanges G v w old new s u W
-exchange_of {V} G v w line h old mid new s t u W comes hears replied =
-    let behind = follows (size_behind h.command) mid new t u h.payload.items hears.follows in
+-- a line that is heard and answered is a turn
+pub turn_of : {V : Type 0} (G : Ghosts V) (a c : Point V) (line : List ℕ) (h : Heard) (mid : List ℕ) (t : SourceState) (W : List ℕ → Type 0)
+    → ComesLine a.ahead mid a.source t line → Hears (G.room a.service) line mid c.ahead t c.source h → IsReplied G a.service h.command h.payload.items c.service W → IsOneTurn G a c W
+turn_of {V} G a c line h mid t W comes hears replied =
+    let behind = follows (size_behind h.command) mid c.ahead t c.source h.payload.items hears.follows in
     record {
       exchange = record { line = line; command = h.command; payload = h.payload.items; reply = replied.0 };
-      is = record { single = comes.single; heard = hears.heard; sized = behind.1; answered = replied.1 };
-      read = comes_more old mid new s t u (ended line) (text_behind (size_behind h.command) h.payload.items) comes.comes behind.0;
+      turn = record {
+        read = comes_more a.ahead mid c.ahead a.source t c.source (ended line) (text_behind (size_behind h.command) h.payload.items) comes.comes behind.0;
+        answered = record { single = comes.single; heard = hears.heard; sized = behind.1; answered = replied.1 };
+      };
       written = replied.2;
     }

@@ -9,17 +9,22 @@ use Rattle.profile.specs.Messages.{status_of}
 use Rattle.profile.specs.declared.fault.DocumentFault.{DocumentFault}
 use Rattle.profile.specs.declared.fault.DocumentFault.TheVariants as reading
 use Rattle.session.proofs.Calls.{edits_are_one_document}
+use Rattle.session.specs.Devices.{Device}
 use Rattle.session.specs.Edits as calls
-use Rattle.session.specs.Edits.{Call, Reply, Add, Added, Resumed, Named, Grouped, Explained, Found, Written, AreCalls, IsCall, IsOneDocument, IsSessionOver, accepted, added}
+use Rattle.session.specs.Edits.{Call, Reply, Add, Added, Resumed, Named, Grouped, Explained, Found, Written, AreCalls, IsCall, IsOneDocument, IsSessionOver, added}
 use Rattle.session.specs.Sessions.{IsSession, Opened}
 use Rattle.session.specs.declared.form.Form.TheVariants.{Lines}
 use Rattle.session.specs.declared.question_fault.QuestionFault.TheVariants as faults
 use Rattle.speech.specs.Answers.{IsAnswerTold, IsFaultTold, IsStep, session_service}
-use Rattle.speech.specs.Conversations.{AreExchanges, Exchange, IsAnswered}
+use Rattle.source_lines.specs.Sources.{SourceState}
+use Rattle.speech.specs.Conversations.{AreExchanges, Exchange, IsAnswered, IsConversation}
+use Rattle.speech.specs.Wholes.{IsExchanged}
+use Rattle.speech.proofs.Exchanging.{exchanged}
 use Rattle.speech.specs.Editing.{AreCallsOf, texts_added, told_added}
 use Rattle.speech.specs.Replies.{Told, out_of_memory}
 use Rattle.speech.specs.declared.command.Command.{Command}
 use Rattle.speech.specs.declared.command.Command.TheVariants as asked
+use Rattle.speech.specs.declared.conversation.Ending.{Ending}
 use Rattle.speech.specs.declared.session_service.SessionService.{SessionService}
 
 -- a call is made, which adds these texts; or none is, and nothing changes
@@ -114,6 +119,10 @@ one_more old mid new x xs None is (told, same) h =
 pub calls_of : (old new : SessionService) (xs : List Exchange) → AreExchanges session_service old xs new → AreCallsOf old.session xs new.session
 calls_of old new [] same = record { calls = []; answers = []; are = ap (λ (s : SessionService). s.session) same; added = refl }
 calls_of old new (x ∷ xs) (mid, is, later) = one_more old mid new.session x xs x.command refl is.answered (calls_of mid new xs later)
+
+pub exchanges_of : (old new : SessionService) (before after : SourceState) (sink sink' : Device) (ending : Ending) → IsConversation session_service old new before after sink sink' ending
+    → IsExchanged session_service old new before after sink sink' ending
+exchanges_of old new before after sink sink' ending is = exchanged session_service old new before after sink sink' ending is
 
 pub one_document : (version : Version) (bytes : List ℕ) (old new : SessionService) (xs : List Exchange) → IsSessionOver version bytes old.session → AreExchanges session_service old xs new
     → IsOneDocument version bytes (texts_added xs) new.session

@@ -4,5 +4,7 @@ pub mod Coming
 pub mod Replying
 pub mod Behind
 pub mod Conversing
+pub mod Exchanging
+pub mod SeenAs
 pub mod Edits
 pub mod Calling

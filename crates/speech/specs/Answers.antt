@@ -181,6 +181,6 @@ pub record IsServed (old : SessionService) (command : commands.Command) (payload
   pub limits : new.limits ≡ old.limits
   pub session : IsSession new.session
 
--- what a session says as what answers commands
+-- what a session says as what answers commands: as many bytes may follow as it may still have
 abbrev pub session_service : Ghosts SessionService
-session_service = record { steps = IsServed; room = λ s. s.limits.max_bytes - s.session.bytes }
+session_service = record { steps = IsServed; room = λ s. s.session.most_bytes - s.session.bytes }

@@ -1,7 +1,7 @@
 -- Commands and what is told of them, one behind the other: what was read, what was done, and what was written.
 use Rattle.std.specs.Prelude.{◌≡◌, ◌<◌, ◌≤◌, ◌⊎◌, ◌++◌, ◌∷◌, ℕ, List, [], Option, Some, None, codes, length, slice_get}
 use Rattle.std.specs.Io.KnownBytes.{IsAtEnd}
-use Rattle.std.specs.List.{Contains, flat_map}
+use Rattle.std.specs.List.{Contains}
 use Rattle.device.specs.Device.{HasFailed}
 use Rattle.program.specs.declared.status.Status.{Status}
 use Rattle.program.specs.declared.status.Status.TheVariants as statuses
@@ -176,28 +176,41 @@ told_of fault = told (status_of fault) (fault_text fault)
 
 -- ---- whole conversations
 
--- what was asked and answered, and as how it was read
-pub record Exchanged {V : Type 0} (G : Ghosts V) (old new : V) (ahead : List ℕ) (before after : SourceState) (xs : List Exchange) : Type 0 where
-  pub run : AreExchanges G old xs new
-  pub read : Comes [] ahead before after (flat_map text_asked xs)
-
--- the replies
-abbrev pub replies : List Exchange → List ℕ
-replies xs = flat_map text_told xs
-
--- what came next is refused, once all before it was answered
-pub record IsRefusedBehind {V : Type 0} (G : Ghosts V) (old new : V) (before after : SourceState) (xs : List Exchange) (fault : InputFault) : Type 0 where
+-- how far a conversation is: what answers, the bytes that were read ahead of the next line, the source, and the sink
+pub record Point (V : Type 0) : Type 0 where
+  pub service : V
   pub ahead : List ℕ
-  pub then : SourceState
-  pub exchanged : Exchanged G old new ahead before then xs
-  pub refused : IsRefused (G.room new) fault ahead then after
+  pub source : SourceState
+  pub sink : Device
 
--- what was asked was answered up to the end: all of it; or all before what is refused, which is told; or the sink failed in a reply
+abbrev pub point : {V : Type 0} → V → (ahead : List ℕ) → SourceState → (sink : Device) → Point V
+point service ahead source sink = record { service = service; ahead = ahead; source = source; sink = sink }
+
+-- the next line is read, with the bytes behind it, and is answered as what it is
+pub record IsTurn {V : Type 0} (G : Ghosts V) (old : Point V) (x : Exchange) (new : Point V) : Type 0 where
+  pub read : Comes old.ahead new.ahead old.source new.source (text_asked x)
+  pub answered : IsExchange G old.service x new.service
+
+-- turn by turn: the sink takes the whole reply to each line before the next line is read
+abbrev pub AreTurns : {V : Type 0} → Ghosts V → (old : Point V) → List Exchange → (new : Point V) → Type 0
+AreTurns G old [] new = new ≡ old
+AreTurns {V} G old (x ∷ xs) new = (mid : Point V) × IsTurn G old x mid × Takes old.sink mid.sink (text_told x) × AreTurns G mid xs new
+
+-- what comes next is refused, and nothing is done
+pub record IsTurnedDown {V : Type 0} (G : Ghosts V) (old : Point V) (fault : InputFault) (new : Point V) : Type 0 where
+  pub refused : IsRefused (G.room old.service) fault old.ahead old.source new.source
+  pub stays : new.service ≡ old.service
+
+-- what comes last: the end of the source; or what is refused, which is told; or the sink fails in the reply to one more line, or in what
+-- is told of what is refused
+abbrev pub IsLastTurn : {V : Type 0} → Ghosts V → (old : Point V) → Ending → (new : Point V) → Type 0
+IsLastTurn G old endings.End new = IsLast old.ahead old.source new.source [] × (new.service ≡ old.service) × (new.sink ≡ old.sink)
+IsLastTurn G old (endings.Refused fault) new = IsTurnedDown G old fault new × Takes old.sink new.sink (reply_text (told_of fault))
+IsLastTurn G old endings.Unwritten new =
+    ((x : Exchange) × IsTurn G old x new × FailsIn old.sink new.sink (text_told x))
+    ⊎ ((fault : InputFault) × IsTurnedDown G old fault new × FailsIn old.sink new.sink (reply_text (told_of fault)))
+
+-- turn by turn, and then what comes last; at first nothing is read
 abbrev pub IsConversation : {V : Type 0} → Ghosts V → (old new : V) → (before after : SourceState) → (sink sink' : Device) → Ending → Type 0
-IsConversation G old new before after sink sink' endings.End =
-    (xs : List Exchange) × Exchanged G old new [] before after xs × IsAtEnd after.left × Takes sink sink' (replies xs)
-IsConversation G old new before after sink sink' (endings.Refused fault) =
-    (xs : List Exchange) × IsRefusedBehind G old new before after xs fault × Takes sink sink' (replies xs ++ reply_text (told_of fault))
-IsConversation G old new before after sink sink' endings.Unwritten =
-    ((xs : List Exchange) × (ahead : List ℕ) × Exchanged G old new ahead before after xs × FailsIn sink sink' (replies xs))
-    ⊎ ((xs : List Exchange) × (fault : InputFault) × IsRefusedBehind G old new before after xs fault × FailsIn sink sink' (replies xs ++ reply_text (told_of fault)))
+IsConversation {V} G old new before after sink sink' ending =
+    (xs : List Exchange) × (mid : Point V) × (ahead : List ℕ) × AreTurns G (point old [] before sink) xs mid × IsLastTurn G mid ending (point new ahead after sink')

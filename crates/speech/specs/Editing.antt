@@ -4,12 +4,16 @@ use Rattle.std.specs.List.{flat_map}
 use Rattle.program.specs.declared.status.Status.{Status}
 use Rattle.program.specs.declared.status.Status.TheVariants as statuses
 use Rattle.program.specs.declared.version.Version.{Version}
+use Rattle.session.specs.Devices.{Device}
 use Rattle.session.specs.Edits.{Call, Reply, AreCalls, IsOneDocument, IsSessionOver, accepted}
 use Rattle.session.specs.Sessions.{Opened}
+use Rattle.source_lines.specs.Sources.{SourceState}
 use Rattle.speech.specs.Answers.{session_service}
-use Rattle.speech.specs.Conversations.{AreExchanges, Exchange}
+use Rattle.speech.specs.Conversations.{AreExchanges, Exchange, IsConversation}
+use Rattle.speech.specs.Wholes.{IsExchanged}
 use Rattle.speech.specs.declared.command.Command.{Command}
 use Rattle.speech.specs.declared.command.Command.TheVariants.{Add}
+use Rattle.speech.specs.declared.conversation.Ending.{Ending}
 use Rattle.speech.specs.declared.session_service.SessionService.{SessionService}
 
 -- the text that is told to be added: that behind a command `add` which is done
@@ -29,6 +33,12 @@ pub record AreCallsOf (old : Opened) (xs : List Exchange) (new : Opened) : Type 
   pub added : accepted calls answers ≡ texts_added xs
 
 -- ---- laws
+
+-- a conversation is exchanges, one behind the other: what was read spells them, and what was written is what they tell
+abbrev pub ConversationsAreExchanges : Type 0
+ConversationsAreExchanges =
+    (old new : SessionService) (before after : SourceState) (sink sink' : Device) (ending : Ending) → IsConversation session_service old new before after sink sink' ending →
+    IsExchanged session_service old new before after sink sink' ending
 
 -- whatever is asked: each session is that of calls
 abbrev pub ConversationsAreCalls : Type 0

@@ -1,6 +1,7 @@
 pub mod Commands
 pub mod Replies
 pub mod Conversations
+pub mod Wholes
 pub mod Turns
 pub mod Messages
 pub mod Answers

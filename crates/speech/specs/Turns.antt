@@ -1,7 +1,7 @@
 -- One turn of a conversation.
 use Rattle.std.specs.Prelude.{◌≡◌, ◌<◌, ◌≤◌, ℕ, List, [], Option, Some, None, Result, Ok, Err}
 use Rattle.source_lines.specs.Sources.{SourceState}
-use Rattle.speech.specs.Conversations.{Comes, ComesLine, Exchange, Follows, HasNoSize, HasPayload, IsAnswered, IsExchange, IsHeard, IsLast, IsRefused, LacksLine, LacksPayload, size_behind, status_of, text_asked, text_told, told_of}
+use Rattle.speech.specs.Conversations.{ComesLine, Exchange, Follows, HasNoSize, HasPayload, IsAnswered, IsHeard, IsLast, IsLastTurn, IsTurn, IsTurnedDown, LacksLine, LacksPayload, Point, size_behind, status_of, text_told, told_of}
 use Rattle.session.specs.Devices.{Device, FailsIn, Takes}
 use Rattle.program.specs.declared.status.Status.{Status}
 use Rattle.program.specs.declared.status.Status.TheVariants as statuses
@@ -60,21 +60,15 @@ status_of_end endings.End = statuses.Done
 status_of_end (endings.Refused fault) = status_of fault
 status_of_end endings.Unwritten = statuses.File
 
--- one exchange is done, as far as it was written
-pub record Exchanges {V : Type 0} (G : Ghosts V) (old new : V) (ahead ahead' : List ℕ) (before after : SourceState) (Written : List ℕ → Type 0) : Type 0 where
+-- one turn is done, and its reply goes out as far as it was written
+pub record IsOneTurn {V : Type 0} (G : Ghosts V) (old new : Point V) (Written : List ℕ → Type 0) : Type 0 where
   pub exchange : Exchange
-  pub is : IsExchange G old exchange new
-  pub read : Comes ahead ahead' before after (text_asked exchange)
+  pub turn : IsTurn G old exchange new
   pub written : Written (text_told exchange)
 
--- nothing is done
-pub record StaysAs {V : Type 0} (old new : V) (before after : Device) : Type 0 where
-  pub service : new ≡ old
-  pub sink : after ≡ before
-
--- one exchange is done, and the conversation goes on; or it ends
-abbrev pub IsTurn : {V : Type 0} → Ghosts V → (old new : V) → (ahead ahead' : List ℕ) → (before after : SourceState) → (sink sink' : Device) → Option Ending → Type 0
-IsTurn G old new ahead ahead' before after sink sink' None = Exchanges G old new ahead ahead' before after (Takes sink sink')
-IsTurn G old new ahead ahead' before after sink sink' (Some endings.End) = StaysAs old new sink sink' × IsLast ahead before after [] × (ahead' ≡ [])
-IsTurn G old new ahead ahead' before after sink sink' (Some (endings.Refused fault)) = StaysAs old new sink sink' × IsRefused (G.room old) fault ahead before after
-IsTurn G old new ahead ahead' before after sink sink' (Some endings.Unwritten) = Exchanges G old new ahead ahead' before after (FailsIn sink sink')
+-- one turn is done whole, and the conversation goes on; or it ends, where it is still to be told what is refused
+abbrev pub IsNext : {V : Type 0} → Ghosts V → (old new : Point V) → Option Ending → Type 0
+IsNext G old new None = IsOneTurn G old new (Takes old.sink new.sink)
+IsNext G old new (Some endings.End) = IsLastTurn G old endings.End new
+IsNext G old new (Some (endings.Refused fault)) = IsTurnedDown G old fault new × (new.sink ≡ old.sink)
+IsNext G old new (Some endings.Unwritten) = IsOneTurn G old new (FailsIn old.sink new.sink)

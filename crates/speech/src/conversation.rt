@@ -1,8 +1,8 @@
 //! A conversation: commands are read, and each is answered before the next one is read.
 ghost use Rattle.source_lines.specs.Sources.{source_state};
-ghost use Rattle.speech.specs.Conversations.{IsConversation};
+ghost use Rattle.speech.specs.Conversations.{IsConversation, point};
 ghost use Rattle.session.specs.Devices.{FailsIn, Takes, seen};
-ghost use Rattle.speech.specs.Turns.{IsRefusalTold, IsReplied, IsTurn, status_of_end};
+ghost use Rattle.speech.specs.Turns.{IsNext, IsRefusalTold, IsReplied, status_of_end};
 ghost use Rattle.std.specs.Prelude.{◌≡◌, ◌≤◌, OnErr, OnOk, length};
 
 use crate::hearing::{Heard, hear, next_line};
@@ -65,8 +65,8 @@ fn turn<V: Service, S: Source, O: Sink>(
     source: &mut S,
     sink: &mut O,
 ) -> Option<Ending>
-    ensures { IsTurn V.Service service.old service.new lines.old.ahead lines.new.ahead (source_state S.Source source.old) (source_state S.Source source.new)
-        (seen O.Sink sink.old) (seen O.Sink sink.new) result }
+    ensures { IsNext V.Service (point service.old lines.old.ahead (source_state S.Source source.old) (seen O.Sink sink.old))
+        (point service.new lines.new.ahead (source_state S.Source source.new) (seen O.Sink sink.new)) result }
 {
     let line = match next_line(alloc, lines, source) {
         Ok(Some(line)) => line,
@@ -93,7 +93,8 @@ fn refuse<O: Sink>(fault: InputFault, sink: &mut O) -> Ending
     }
 }
 
-/// Reads commands until the source ends, and answers each: its reply is handed on whole before the next line is read.
+/// Reads commands until the source ends, and answers each: its reply is handed on whole before the next line is read. Where the sink
+/// fails in a reply, nothing is read and nothing is done behind that.
 pub fn converse<V: Service, S: Source, O: Sink>(
     alloc: Global,
     service: &mut V,

@@ -1,9 +1,11 @@
-use Rattle.std.proofs.Common.{Some, subst}
+use Rattle.std.proofs.Common.{[], Some, subst}
 use Rattle.source_lines.specs.Sources.{source_state}
 use Rattle.session.specs.Devices.{Takes, seen}
-use Rattle.speech.specs.Turns.{IsRefusalTold, IsTurn}
+use Rattle.speech.specs.Conversations.{point}
+use Rattle.speech.specs.Turns.{IsNext, IsRefusalTold}
 use Rattle.speech.specs.declared.input_fault.InputFault.{InputFault}
 use Rattle.speech.specs.declared.conversation.Ending.{Ending}
+use Rattle.speech.specs.declared.conversation.Ending.TheVariants as endings
 use Rattle.speech.proofs.Conversing.{answered_more, at_first, ended_by, refused_by, some_taken, unwritten_by}
 use Rattle.speech.proofs.conversation.converse.Goals as goal
 
@@ -12,46 +14,38 @@ loop-fault-init g c = at_first g.V.Service c.args.service.now c.new-lines.result
 
 pub loop-fault-smaller : goal.loop-fault-smaller
 loop-fault-smaller g c =
-    some_taken g.V.Service c.loop-fault.service c.turn.new.service c.loop-fault.lines.ahead c.turn.new.lines.ahead (source_state g.S.Source c.loop-fault.source) (source_state g.S.Source c.turn.new.source)
-    (Takes (seen g.O.Sink c.loop-fault.sink) (seen g.O.Sink c.turn.new.sink)) c.in-None.ensures
+    let b = point c.loop-fault.service c.loop-fault.lines.ahead (source_state g.S.Source c.loop-fault.source) (seen g.O.Sink c.loop-fault.sink) in
+    let d = point c.turn.new.service c.turn.new.lines.ahead (source_state g.S.Source c.turn.new.source) (seen g.O.Sink c.turn.new.sink) in
+    some_taken g.V.Service b d (Takes b.sink d.sink) c.in-None.ensures
 
 pub loop-fault-preserved : goal.loop-fault-preserved
 loop-fault-preserved g c =
-    answered_more g.V.Service c.args.service.now c.loop-fault.service c.turn.new.service c.loop-fault.lines.ahead c.turn.new.lines.ahead
-    (source_state g.S.Source c.args.source.now) (source_state g.S.Source c.loop-fault.source) (source_state g.S.Source c.turn.new.source)
-    (seen g.O.Sink c.args.sink.now) (seen g.O.Sink c.loop-fault.sink) (seen g.O.Sink c.turn.new.sink) c.loop-fault.invariant c.in-None.ensures
+    answered_more g.V.Service (point c.args.service.now [] (source_state g.S.Source c.args.source.now) (seen g.O.Sink c.args.sink.now))
+    (point c.loop-fault.service c.loop-fault.lines.ahead (source_state g.S.Source c.loop-fault.source) (seen g.O.Sink c.loop-fault.sink))
+    (point c.turn.new.service c.turn.new.lines.ahead (source_state g.S.Source c.turn.new.source) (seen g.O.Sink c.turn.new.sink)) c.loop-fault.invariant c.in-None.ensures
 
 pub returns-in-Some-Refused : goal.returns-in-Some-Refused
 returns-in-Some-Refused g c =
-    let s = source_state g.S.Source c.args.source.now in
-    let t = source_state g.S.Source c.loop-fault.source in
-    let r = source_state g.S.Source c.turn.new.source in
-    let e = seen g.O.Sink c.loop-fault.sink in
-    let f = seen g.O.Sink c.turn.new.sink in
-    let P : Ending → Type 0 = λ ending. IsTurn g.V.Service c.loop-fault.service c.turn.new.service c.loop-fault.lines.ahead c.turn.new.lines.ahead t r e f (Some ending) in
-    let R : InputFault → Type 0 = λ fault. IsRefusalTold fault f (seen g.O.Sink c.refuse.new.sink) c.refuse.result in
-    refused_by g.V.Service c.args.service.now c.loop-fault.service c.turn.new.service c.loop-fault.lines.ahead c.turn.new.lines.ahead s t r
-    (seen g.O.Sink c.args.sink.now) e f (seen g.O.Sink c.refuse.new.sink) c.in-Some-Refused.fault c.refuse.result
-    c.loop-fault.invariant (subst P c.in-Some-Refused.field-0-is c.in-Some-Refused.ensures) (subst R c.in-Some-Refused.fault-is c.refuse.ensures)
+    let b = point c.loop-fault.service c.loop-fault.lines.ahead (source_state g.S.Source c.loop-fault.source) (seen g.O.Sink c.loop-fault.sink) in
+    let d = point c.turn.new.service c.turn.new.lines.ahead (source_state g.S.Source c.turn.new.source) (seen g.O.Sink c.turn.new.sink) in
+    let e = seen g.O.Sink c.refuse.new.sink in
+    let P : Ending → Type 0 = λ ending. IsNext g.V.Service b d (Some ending) in
+    let R : InputFault → Type 0 = λ fault. IsRefusalTold fault d.sink e c.refuse.result in
+    ended_by g.V.Service c.args.service.now (source_state g.S.Source c.args.source.now) (seen g.O.Sink c.args.sink.now) b (point d.service d.ahead d.source e) c.refuse.result c.loop-fault.invariant
+    (refused_by g.V.Service b d c.in-Some-Refused.fault c.refuse.result e (subst P c.in-Some-Refused.field-0-is c.in-Some-Refused.ensures) (subst R c.in-Some-Refused.fault-is c.refuse.ensures))
 
 pub returns-in-Some-End : goal.returns-in-Some-End
 returns-in-Some-End g c =
-    let s = source_state g.S.Source c.args.source.now in
-    let t = source_state g.S.Source c.loop-fault.source in
-    let r = source_state g.S.Source c.turn.new.source in
-    let e = seen g.O.Sink c.loop-fault.sink in
-    let f = seen g.O.Sink c.turn.new.sink in
-    let P : Ending → Type 0 = λ ending. IsTurn g.V.Service c.loop-fault.service c.turn.new.service c.loop-fault.lines.ahead c.turn.new.lines.ahead t r e f (Some ending) in
-    ended_by g.V.Service c.args.service.now c.loop-fault.service c.turn.new.service c.loop-fault.lines.ahead c.turn.new.lines.ahead s t r
-    (seen g.O.Sink c.args.sink.now) e f c.loop-fault.invariant (subst P c.in-Some-End.field-0-is c.in-Some-End.ensures)
+    let b = point c.loop-fault.service c.loop-fault.lines.ahead (source_state g.S.Source c.loop-fault.source) (seen g.O.Sink c.loop-fault.sink) in
+    let d = point c.turn.new.service c.turn.new.lines.ahead (source_state g.S.Source c.turn.new.source) (seen g.O.Sink c.turn.new.sink) in
+    let P : Ending → Type 0 = λ ending. IsNext g.V.Service b d (Some ending) in
+    ended_by g.V.Service c.args.service.now (source_state g.S.Source c.args.source.now) (seen g.O.Sink c.args.sink.now) b d endings.End c.loop-fault.invariant
+    (subst P c.in-Some-End.field-0-is c.in-Some-End.ensures)
 
 pub returns-in-Some-Unwritten : goal.returns-in-Some-Unwritten
 returns-in-Some-Unwritten g c =
-    let s = source_state g.S.Source c.args.source.now in
-    let t = source_state g.S.Source c.loop-fault.source in
-    let r = source_state g.S.Source c.turn.new.source in
-    let e = seen g.O.Sink c.loop-fault.sink in
-    let f = seen g.O.Sink c.turn.new.sink in
-    let P : Ending → Type 0 = λ ending. IsTurn g.V.Service c.loop-fault.service c.turn.new.service c.loop-fault.lines.ahead c.turn.new.lines.ahead t r e f (Some ending) in
-    unwritten_by g.V.Service c.args.service.now c.loop-fault.service c.turn.new.service c.loop-fault.lines.ahead c.turn.new.lines.ahead s t r
-    (seen g.O.Sink c.args.sink.now) e f c.loop-fault.invariant (subst P c.in-Some-Unwritten.field-0-is c.in-Some-Unwritten.ensures)
+    let b = point c.loop-fault.service c.loop-fault.lines.ahead (source_state g.S.Source c.loop-fault.source) (seen g.O.Sink c.loop-fault.sink) in
+    let d = point c.turn.new.service c.turn.new.lines.ahead (source_state g.S.Source c.turn.new.source) (seen g.O.Sink c.turn.new.sink) in
+    let P : Ending → Type 0 = λ ending. IsNext g.V.Service b d (Some ending) in
+    ended_by g.V.Service c.args.service.now (source_state g.S.Source c.args.source.now) (seen g.O.Sink c.args.sink.now) b d endings.Unwritten c.loop-fault.invariant
+    (unwritten_by g.V.Service b d (subst P c.in-Some-Unwritten.field-0-is c.in-Some-Unwritten.ensures))
