@@ -1,6 +1,17 @@
--- What brings nothing new leaves nothing pending that was not.
-use Rattle.std.proofs.Common.{◌≡◌, ℕ, ◌≤◌, ⊎_elim, List, [], ◌∷◌, length, slice_get, Option, Some, Contains, All, arith}
-use Rattle.std.proofs.lemmas.Bool.{cases_lt}
+-- How many facts are served, and that what brings nothing new leaves nothing pending that was not.
+use Rattle.std.proofs.Common.{◌≡◌, ℕ, ◌<◌, ◌≤◌, ⊎_elim, Bool, true, false, List, [], ◌∷◌, length, get_or, slice_get, Option, Some, Contains, All, eqb, refl, sym, ap, ◌∙◌, arith}
+use Rattle.std.specs.List.{IsDistinct, range_with_len}
+use Rattle.std.specs.Set.{is_member}
+use Rattle.std.specs.Cmp.{IsEquivalence}
+use Rattle.std.proofs.lemmas.Bool.{cases_lt, eqb-true, false≢true, ne_eqb}
+use Rattle.std.proofs.lemmas.Bool.Decides.{Decides-eqb, nat_tests}
+use Rattle.std.proofs.lemmas.List.FromFn.{length-range_with_len}
+use Rattle.std.proofs.lemmas.Map.Keys.{IsDistinct-from_apart}
+use Rattle.std.proofs.lemmas.Map.Made.{is_member-Decides, length-le_from_is_member}
+use Rattle.std.proofs.lemmas.Map.Steps.{length-le_from_distinct_below}
+use Rattle.std.proofs.lemmas.Map.Views.{Contains-from_any}
+use Rattle.std.proofs.lemmas.Option.{slice_get-get_or}
+use Rattle.axioms.specs.WellFormedness.{AreDistinct}
 use Rattle.lemmas.proofs.Members.{Contains-from_slice_get, slice_get-from_Contains}
 use Rattle.normal_forms.specs.declared.forms.Form.{Form}
 use Rattle.normal_forms.specs.declared.forms.Form.TheVariants.{N1, N2, N3, N4, N5, N6, N7, N8, N9, N10, N11, N12}
@@ -15,11 +26,11 @@ use Rattle.facts.proofs.Least.{closed, least}
 use Rattle.facts.proofs.Sameness.{of_more}
 use Rattle.inference.proofs.Growth.{sound}
 use Rattle.saturate.specs.Growth.{KeepsServed}
-use Rattle.saturate.specs.Run.{IsState, IsFinished}
+use Rattle.saturate.specs.Run.{IsState, IsFinished, IsPending}
 use Rattle.saturate.specs.State.{Seen}
-use Rattle.saturate.proofs.Counting.{length-le_from_Contains, not_more}
-use Rattle.saturate.proofs.Runs.{few_served, finished_is_closure}
-use Rattle.engine.specs.Saturations.{AsksForNoServed, BringsNothing}
+use Rattle.saturate.proofs.Counting.{not_more}
+use Rattle.saturate.proofs.Runs.{all_numbers_distinct, all_numbers_within, each_served, finished_is_closure}
+use Rattle.engine.specs.Saturations.{AsksForNoServed, BringsNothing, FinishedHasNonePending}
 
 -- ---- what the new forms and contexts give
 
@@ -101,14 +112,70 @@ module _ (old new : Problem) (nothing : BringsNothing old new) where
   was_fact : (f : Fact) → IsFact new f → IsFact old f
   was_fact f is = least new (IsFact old) given_before f is
 
+-- ---- how many numbers there are
+
+one_equality : IsEquivalence eqb
+one_equality = record {
+  refl = λ x. grind (arith, nat_tests);
+  symm = λ x y. grind (arith, nat_tests);
+  congr = λ x y z e. grind (arith, nat_tests);
+}
+
+-- a test finds no number twice
+apart_by_test : (xs : List ℕ) → AreDistinct xs → IsDistinct eqb xs
+apart_by_test xs apart = IsDistinct-from_apart eqb xs (λ i j d low within. ne_eqb (get_or xs i d) (get_or xs j d) (λ e. absurd (different i j d low within e)))
+  where
+    different : (i j d : ℕ) → i < j → j < length xs → get_or xs i d ≡ get_or xs j d → ⊥
+    different i j d low within e =
+        let one : i ≡ j = apart i j (get_or xs j d) (slice_get-get_or xs i d (omega (arith, low, within)) ∙ ap Some e) (slice_get-get_or xs j d within) in
+        absurd (omega (arith, one, low))
+
+-- different numbers of a list are at most as many as it has
+at_most_as_many : (xs ys : List ℕ) → AreDistinct xs → ((n : ℕ) → Contains xs n → Contains ys n) → length xs ≤ length ys
+at_most_as_many xs ys apart each =
+    length-le_from_is_member one_equality xs ys (apart_by_test xs apart)
+    (λ n there. (is_member-Decides Decides-eqb ys n).1 (each n ((is_member-Decides Decides-eqb xs n).0 there)))
+
+-- and at most as many as are below a bound
+at_most_below : (xs : List ℕ) (bound : ℕ) → AreDistinct xs → ((n : ℕ) → Contains xs n → n < bound) → length xs ≤ bound
+at_most_below xs bound apart each = length-le_from_distinct_below xs bound (apart_by_test xs apart) (λ n there. each n (Contains-from_any eqb-true n xs there))
+
+-- the served facts of a state are at most as many as there are facts
+few_served : (s : Seen) → IsState s → length s.served ≤ length s.facts
+few_served s state = at_most_below s.served (length s.facts) state.once state.within
+
 -- ---- what is served
 
 -- where no new form asks for a served fact, exactly those that were served are, and each once
 pub as_many_served : (old new : Seen) → IsState old → IsState new → KeepsServed old.problem.forms new.problem.forms old.facts old.served new.served → AsksForNoServed old new → length new.served ≡ length old.served
 as_many_served old new before now keeps none =
-    let many : length old.served ≤ length new.served = length-le_from_Contains old.served new.served before.once (λ n there. (keeps n).1 (there, none n there)) in
-    let few : length new.served ≤ length old.served = length-le_from_Contains new.served old.served now.once (λ n there. ((keeps n).0 there).0) in
+    let many : length old.served ≤ length new.served = at_most_as_many old.served new.served before.once (λ n there. (keeps n).1 (there, none n there)) in
+    let few : length new.served ≤ length old.served = at_most_as_many new.served old.served now.once (λ n there. ((keeps n).0 there).0) in
     omega (arith, many, few)
+
+-- ---- where none is pending
+
+-- each fact is served that is not pending
+served_unless_pending : (s : Seen) → ((n : ℕ) → ¬ IsPending s n) → (n : ℕ) → n < length s.facts → Contains s.served n
+served_unless_pending s idle n low = go (is_member eqb s.served n) refl
+  where
+    go : (b : Bool) → is_member eqb s.served n ≡ b → Contains s.served n
+    go true e = (is_member-Decides Decides-eqb s.served n).0 e
+    go false e = absurd (idle n (record { there = low; unserved = λ c. false≢true (sym e ∙ (is_member-Decides Decides-eqb s.served n).1 c) }))
+
+all_served : (s : Seen) → IsState s → ((n : ℕ) → ¬ IsPending s n) → length s.served ≡ length s.facts
+all_served s state idle =
+    let numbers = range_with_len 0 (length s.facts) in
+    let many : length numbers ≤ length s.served =
+    at_most_as_many numbers s.served (all_numbers_distinct (length s.facts)) (λ n c. served_unless_pending s idle n (all_numbers_within (length s.facts) n c)) in
+    let few : length s.served ≤ length s.facts = few_served s state in
+    omega (arith, many, few, length-range_with_len 0 (length s.facts))
+
+pub none_pending : FinishedHasNonePending
+none_pending o s of = (
+  λ all n pending. pending.unserved (each_served s.state.served (length s.state.facts) of.state.once of.state.within all n pending.there),
+  all_served s.state of.state,
+)
 
 -- ---- a state with nothing new
 
@@ -131,6 +198,6 @@ module _ (old new : Seen) (nothing : BringsNothing old.problem new.problem) (bef
 
   pub still_finished : KeepsServed old.problem.forms new.problem.forms old.facts old.served new.served → IsFinished new
   still_finished keeps =
-      let many : length old.served ≤ length new.served = length-le_from_Contains old.served new.served before.once (served_still keeps) in
+      let many : length old.served ≤ length new.served = at_most_as_many old.served new.served before.once (served_still keeps) in
       let few : length new.served ≤ length new.facts = few_served new now in
       omega (arith, no_more_facts, all, many, few)

@@ -1,5 +1,5 @@
 -- What a saturation has.
-use Rattle.std.specs.Prelude.{◌≡◌, ℕ, ◌<◌, ◌≤◌, Bool, List, [], length, map, Result, Err, OnOk, OnErr}
+use Rattle.std.specs.Prelude.{◌≡◌, ◌↔◌, ℕ, ◌<◌, ◌≤◌, Bool, List, [], length, map, Result, Err, OnOk, OnErr}
 use Rattle.std.specs.List.{All, Contains}
 use Rattle.axioms.specs.Ontology.{Ontology}
 use Rattle.axioms.specs.WellFormedness.{AreDistinct, IsOntology}
@@ -20,7 +20,7 @@ use Rattle.inference.specs.declared.known_facts.Stop.TheVariants.{Limit, Memory}
 use Rattle.inference.specs.Derivations.{Keeps}
 use Rattle.saturate.specs.Growth.{KeepsServed}
 use Rattle.saturate.specs.Requests.{IsAskedAt}
-use Rattle.saturate.specs.Run.{IsRun, IsRunUntil, IsState}
+use Rattle.saturate.specs.Run.{IsPending, IsRun, IsRunUntil, IsState}
 use Rattle.saturate.specs.State.{Seen, Extends}
 
 -- normal forms, what they lead to, and whether more may be added
@@ -52,6 +52,10 @@ pub record IsSound (o : Ontology) (s : Saturated) : Type 0 where
 -- all facts are served
 abbrev pub IsFinished : Saturated → Type 0
 IsFinished s = length s.state.served ≡ length s.state.facts
+
+-- of a sound saturation, as many facts are served as there are exactly where none is pending
+abbrev pub FinishedHasNonePending : Type 0
+FinishedHasNonePending = (o : Ontology) (s : Saturated) → IsSound o s → IsFinished s ↔ ((n : ℕ) → ¬ IsPending s.state n)
 
 -- the facts over numbers say exactly the facts of the closure of the ontology and of what is asked about
 pub record SayTheClosure (o : Ontology) (asked : List ℕ) (b : Prefixes) (facts : List code.Fact) : Type 0 where

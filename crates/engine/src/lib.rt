@@ -3,7 +3,9 @@
 
 mod asking;
 mod extending;
+mod laws;
 mod saturation;
 
+pub use laws::finished_has_none_pending;
 pub use saturate::Stop;
 pub use saturation::{Saturation, saturated};

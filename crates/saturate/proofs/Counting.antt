@@ -1,4 +1,4 @@
--- Different members of a list are at most as many as it has, and so a closure has one number of facts.
+-- A closure has one number of facts.
 use Rattle.std.proofs.Common.{◌≡◌, ℕ, zero, suc, ◌≤◌, List, [], ◌∷◌, length, slice_get, Some, Contains, refl, sym, ap, ◌∙◌, arith}
 use Rattle.std.proofs.lemmas.Option.{none-some, same_Some, slice_get_within, slice_get-get_or}
 use Rattle.axioms.specs.WellFormedness.{AreDistinct}
@@ -9,17 +9,17 @@ use Rattle.inference.specs.Completeness.{IsClosure}
 use Rattle.lemmas.proofs.Members.{Contains-first, Contains-later, slice_get-from_Contains}
 use Rattle.number_sets.proofs.Members.{length-le_from_below}
 
--- the places of members in another list
-places : {X : Type 0} (xs ys : List X) → ((x : X) → Contains xs x → Contains ys x) → List ℕ
+-- the places of facts in another list
+places : (xs ys : List Fact) → ((x : Fact) → Contains xs x → Contains ys x) → List ℕ
 places [] ys h = []
 places (x ∷ xs) ys h = (h x (Contains-first x xs)).0 ∷ places xs ys (λ y k. h y (Contains-later x y xs k))
 
-length-places : {X : Type 0} (xs ys : List X) (h : (x : X) → Contains xs x → Contains ys x) → length (places xs ys h) ≡ length xs
+length-places : (xs ys : List Fact) (h : (x : Fact) → Contains xs x → Contains ys x) → length (places xs ys h) ≡ length xs
 unfolding places
 length-places [] ys h = refl
 length-places (x ∷ xs) ys h = ap suc (length-places xs ys (λ y k. h y (Contains-later x y xs k)))
 
-place_of : {X : Type 0} (xs ys : List X) (h : (x : X) → Contains xs x → Contains ys x) (k p : ℕ) → slice_get (places xs ys h) k ≡ Some p → (x : X) × (slice_get xs k ≡ Some x) × (slice_get ys p ≡ Some x)
+place_of : (xs ys : List Fact) (h : (x : Fact) → Contains xs x → Contains ys x) (k p : ℕ) → slice_get (places xs ys h) k ≡ Some p → (x : Fact) × (slice_get xs k ≡ Some x) × (slice_get ys p ≡ Some x)
 unfolding places
 place_of [] ys h k p g = absurd (none-some p g)
 place_of (x ∷ xs) ys h zero p g =
@@ -27,8 +27,8 @@ place_of (x ∷ xs) ys h zero p g =
     (x, refl, ap (slice_get ys) (sym (same_Some there.0 p g)) ∙ slice_get-get_or ys there.0 x there.1 ∙ ap (λ y. Some y) there.2)
 place_of (x ∷ xs) ys h (suc k) p g = place_of xs ys (λ y j. h y (Contains-later x y xs j)) k p g
 
--- different members of a list are at most as many as it has
-pub length-le_from_Contains : {X : Type 0} (xs ys : List X) → AreDistinct xs → ((x : X) → Contains xs x → Contains ys x) → length xs ≤ length ys
+-- different facts of a list are at most as many as it has
+length-le_from_Contains : (xs ys : List Fact) → AreDistinct xs → ((x : Fact) → Contains xs x → Contains ys x) → length xs ≤ length ys
 length-le_from_Contains xs ys apart h =
     omega (
       arith,

@@ -17,10 +17,9 @@ use Rattle.inference.specs.Completeness.{IsClosure, IsServed}
 use Rattle.inference.proofs.Lists.{Contains-from_slice_get, slice_get-from_Contains, keeps_push}
 use Rattle.saturate.specs.Turns.{Queued}
 use Rattle.saturate.specs.State.{Seen, AreBorn, Extends, IsUnderWay}
-use Rattle.saturate.specs.Run.{HasRun, IsState, IsStep, AreSteps, IsRun, IsLeft, IsPending, IsRunUntil, IsFinished}
+use Rattle.saturate.specs.Run.{HasRun, IsState, IsStep, AreSteps, IsRun, IsLeft, IsRunUntil, IsFinished}
 use Rattle.lemmas.proofs.Members.{Contains-first, Contains-later}
 use Rattle.number_sets.proofs.Members.{length-le_from_below}
-use Rattle.saturate.proofs.Counting.{length-le_from_Contains}
 use Rattle.saturate.proofs.States.{finished, grown, too_many}
 
 -- ---- a state
@@ -117,23 +116,6 @@ each_served served size once within long n low = ⊎_elim (λ c. c) (λ not. abs
 
 pub finished_is_closure : (s : Seen) → IsState s → IsFinished s → IsClosure s.problem s.facts
 finished_is_closure s state all = finished s.served state.born state.complete (each_served s.served (length s.facts) state.once state.within all)
-
--- ---- where none is pending
-
--- the numbers of served facts are different, and of facts that are there
-pub few_served : (s : Seen) → IsState s → length s.served ≤ length s.facts
-few_served s state = length-le_from_below s.served (length s.facts) (λ i j x a b. state.once i j x a b) (λ i x at. state.within x (Contains-from_slice_get s.served i x at))
-
-all_served : (s : Seen) → IsState s → ((n : ℕ) → ¬ IsPending s n) → IsFinished s
-all_served s state idle =
-    let each : (n : ℕ) → n < length s.facts → Contains s.served n =
-    λ n low. ⊎_elim (λ c. c) (λ fresh. absurd (idle n (record { there = low; unserved = fresh }))) (is_there s.served n) in
-    let many : length (range_with_len 0 (length s.facts)) ≤ length s.served =
-    length-le_from_Contains (range_with_len 0 (length s.facts)) s.served (all_numbers_distinct (length s.facts)) (λ n c. each n (all_numbers_within (length s.facts) n c)) in
-    omega (arith, many, length-range_with_len 0 (length s.facts), few_served s state)
-
-pub none_pending : (s : Seen) → IsState s → IsFinished s ↔ ((n : ℕ) → ¬ IsPending s n)
-none_pending s state = (λ all n p. p.unserved (each_served s.served (length s.facts) state.once state.within all n p.there), all_served s state)
 
 -- ---- runs
 

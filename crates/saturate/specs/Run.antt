@@ -79,10 +79,6 @@ IsFinished s = length s.served ≡ length s.facts
 abbrev pub FinishedIsClosure : Type 0
 FinishedIsClosure = (s : Seen) → IsState s → IsFinished s → IsClosure s.problem s.facts
 
--- as many facts were served as there are exactly where none is pending
-abbrev pub FinishedHasNonePending : Type 0
-FinishedHasNonePending = (s : Seen) → IsState s → IsFinished s ↔ ((n : ℕ) → ¬ IsPending s n)
-
 -- each step serves one fact: a run from nothing served to the end has as many steps as the closure has facts
 abbrev pub StepsServe : Type 0
 StepsServe = (s t : Seen) (run : IsRun s t) → length t.served ≡ length s.served + run.steps
