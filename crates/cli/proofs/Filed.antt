@@ -27,18 +27,17 @@ use Rattle.session.specs.WrittenTexts.{Sinks}
 use Rattle.session.specs.declared.fault.TextFault.{TextFault}
 use Rattle.session.specs.declared.fault.TextFault.TheVariants.{Io, Memory, Unfinished}
 use Rattle.source_lines.specs.Sources.{SourceState}
+use Rattle.speech.proofs.SeenAs.{conversation_seen}
 use Rattle.speech.proofs.Edits.{Does, Stays, before, does, unasked}
 use Rattle.speech.specs.Answers.{session_service}
 use Rattle.speech.specs.Commands.{text_paths}
-use Rattle.speech.specs.Conversations.{AreExchanges, Exchange, Exchanged, IsAnswered, IsConversation, IsExchange, IsRefusedBehind}
+use Rattle.speech.specs.Conversations.{AreExchanges, Exchange, IsAnswered, IsConversation, IsExchange}
 use Rattle.speech.specs.Editing.{AreCallsOf, texts_added, told_added}
 use Rattle.speech.specs.Replies.{Told, told}
 use Rattle.speech.specs.declared.command.Command.{Command}
 use Rattle.speech.specs.declared.command.Command.TheVariants as asked
 use Rattle.speech.specs.declared.command.TextPaths.{TextPaths}
 use Rattle.speech.specs.declared.conversation.Ending.{Ending}
-use Rattle.speech.specs.declared.conversation.Ending.TheVariants as endings
-use Rattle.speech.specs.declared.input_fault.InputFault.{InputFault}
 use Rattle.speech.specs.declared.service.Service.{Ghosts}
 use Rattle.speech.specs.declared.session_service.SessionService.{SessionService}
 use Rattle.system_files.specs.Contents.{Content}
@@ -114,42 +113,13 @@ exchange_over G S known told document first old new x is e =
     let answered = answered_over G S known told document first old new x.command x.payload x.reply is e.answered in
     (record { single = e.single; heard = e.heard; sized = e.sized; answered = answered.0 }, answered.1)
 
-exchanges_over : {F In Out E : Type 0} (G : files.Ghosts F In Out) (S : sinks.Ghosts E) (known told : Bool) (document : Bor (List ℕ)) (first old new : FileService F E In Out) (xs : List Exchange)
-    → IsOver G S known told document first old → AreExchanges (over G S) old xs new → AreExchanges (filing_service known told document) (filed G old) xs (filed G new) × IsOver G S known told document first new
-exchanges_over G S known told document first old new [] is same = (ap (filed G) same, stays_over G S known told document first old new same is)
-exchanges_over G S known told document first old new (x ∷ xs) is (mid, exchange, later) =
-    let one = exchange_over G S known told document first old mid x is exchange in
-    let others = exchanges_over G S known told document first mid new xs one.1 later in
-    ((filed G mid, one.0, others.0), others.1)
-
-exchanged_over : {F In Out E : Type 0} (G : files.Ghosts F In Out) (S : sinks.Ghosts E) (known told : Bool) (document : Bor (List ℕ)) (first new : FileService F E In Out) (ahead : List ℕ) (s t : SourceState) (xs : List Exchange)
-    → IsOver G S known told document first first → Exchanged (over G S) first new ahead s t xs → Exchanged (filing_service known told document) (filed G first) (filed G new) ahead s t xs × IsOver G S known told document first new
-exchanged_over G S known told document first new ahead s t xs is e =
-    let all = exchanges_over G S known told document first first new xs is e.run in
-    (record { run = all.0; read = e.read }, all.1)
-
-refused_over : {F In Out E : Type 0} (G : files.Ghosts F In Out) (S : sinks.Ghosts E) (known told : Bool) (document : Bor (List ℕ)) (first new : FileService F E In Out) (s t : SourceState) (xs : List Exchange) (fault : InputFault)
-    → IsOver G S known told document first first → IsRefusedBehind (over G S) first new s t xs fault → IsRefusedBehind (filing_service known told document) (filed G first) (filed G new) s t xs fault × IsOver G S known told document first new
-refused_over G S known told document first new s t xs fault is r =
-    let all = exchanged_over G S known told document first new r.ahead s r.then xs is r.exchanged in
-    (record { ahead = r.ahead; then = r.then; exchanged = all.0; refused = r.refused }, all.1)
-
 -- a conversation over files that are borrowed is one over what they hold, and the same files stay borrowed
 pub conversation_over : {F In Out E : Type 0} (G : files.Ghosts F In Out) (S : sinks.Ghosts E) (known told : Bool) (document : Bor (List ℕ)) (first new : FileService F E In Out) (s t : SourceState) (sink sink' : Device) (ending : Ending)
     → IsOver G S known told document first first → IsConversation (over G S) first new s t sink sink' ending
     → IsConversation (filing_service known told document) (filed G first) (filed G new) s t sink sink' ending × IsOver G S known told document first new
-conversation_over G S known told document first new s t sink sink' endings.End is (xs, e, end, takes) =
-    let all = exchanged_over G S known told document first new [] s t xs is e in
-    ((xs, all.0, end, takes), all.1)
-conversation_over G S known told document first new s t sink sink' (endings.Refused fault) is (xs, r, takes) =
-    let all = refused_over G S known told document first new s t xs fault is r in
-    ((xs, all.0, takes), all.1)
-conversation_over G S known told document first new s t sink sink' endings.Unwritten is (inl (xs, ahead, e, fails)) =
-    let all = exchanged_over G S known told document first new ahead s t xs is e in
-    (inl (xs, ahead, all.0, fails), all.1)
-conversation_over G S known told document first new s t sink sink' endings.Unwritten is (inr (xs, fault, r, fails)) =
-    let all = refused_over G S known told document first new s t xs fault is r in
-    (inr (xs, fault, all.0, fails), all.1)
+conversation_over G S known told document first new s t sink sink' ending is talk =
+    conversation_seen (over G S) (filing_service known told document) (filed G) (IsOver G S known told document first)
+    (record { exchange = λ a x b here e. exchange_over G S known told document first a b x here e; room = λ a. refl }) first new s t sink sink' ending is talk
 
 -- it is one over what the files hold that are the same in the end
 pub spoken_over : {F In Out : Type 0} (G : files.Ghosts F In Out) (known told : Bool) (document : Bor (List ℕ)) (old : Filed) (last : SessionService) (behind found : F) (s t : SourceState) (sink sink' : Device) (ending : Ending) → behind ≡ found

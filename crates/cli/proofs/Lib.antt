@@ -16,3 +16,4 @@ pub mod FilesAccepted
 pub mod EveryDocument
 pub mod AcceptedRight
 pub mod FilesRight
+pub mod SpokenSessions

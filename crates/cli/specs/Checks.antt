@@ -91,9 +91,16 @@ AreTextsReadUntil (Io (suc (suc (suc (suc zero))))) old new =
     IsReadToItsEnd old.taxonomy new.taxonomy × IsReadToItsEnd old.instances new.instances × FailsInReading old.certificate new.certificate
 AreTextsReadUntil (Io n) old new = ⊥
 
--- what was read of the certificate's source where this is the verdict: all; or some, where it is that the text is that of no certificate
+-- the source gave some bytes, and no call of it failed
+pub record IsBegun (old new : SourceState) : Type 0 where
+  pub taken : List ℕ
+  pub some : ¬ (taken ≡ [])
+  pub given : Gives old new taken
+  pub unfailed : new.failures ≡ old.failures
+
+-- what was read of the certificate's source where this is the verdict: all; or some, where it is that the text is that of none
 abbrev pub IsCertificateRead : Verdict → (old new : SourceState) → Type 0
-IsCertificateRead verdict old new = IsReadToItsEnd old new ⊎ (IsBadText verdict × IsReadOn old new)
+IsCertificateRead verdict old new = IsReadToItsEnd old new ⊎ (IsBadText verdict × IsBegun old new)
 
 -- what was read of the sources of the three texts: each to its end, but the certificate's maybe less where its text is that of none; or
 -- until this fault

@@ -7,6 +7,7 @@ pub mod Files
 pub mod HeldTexts
 pub mod Filing
 pub mod Speaking
+pub mod SpokenSessions
 pub mod Runs
 pub mod Theorems
 pub mod WordsOfRuns

@@ -2,6 +2,7 @@
 #![tactic(auto)]
 
 ghost use Rattle.cli.specs.Filing.{FiledConversationsAreCalls, FiledConversationsAreOneDocument};
+ghost use Rattle.cli.specs.SpokenSessions.{SpokenSessionsAreAnswered};
 ghost use Rattle.cli.specs.Theorems.{AcceptedFilesAreRight, AcceptedTextsAreRight, EveryDocumentIsClassified, ReadDocumentsAreNoStop, WhatIsWrittenIsAccepted, WrittenFilesAreAccepted};
 ghost use Rattle.cli.specs.WordsOfRuns.{WordsOfCheckCheck, WordsOfClassifyClassify};
 
@@ -88,4 +89,11 @@ pub fn words_ask_for_one_run()
 pub fn filed_conversations_are_edits()
     ensures calls { FiledConversationsAreCalls }
     ensures document { FiledConversationsAreOneDocument }
+{}
+
+/// A run of `session` over files of which it is known what they hold, whatever it is asked: the input spells commands, each is answered by
+/// calls of a session over the document, what is written is the replies, and the session has at the end what the document states with the
+/// texts of which the replies tell that they are added.
+pub fn spoken_sessions_are_answered()
+    ensures { SpokenSessionsAreAnswered }
 {}

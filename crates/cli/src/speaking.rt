@@ -32,6 +32,7 @@ fn session_in<F: Files>(
 ) -> Result<Session, DocumentFault>
     ensures opened { IfOk result (λ s. OpensKnown limits.now.version (F.content files.now path.now) limits.now.max_bytes (as_read s)) }
     ensures limit { IfOk result (λ s. s.most_bytes ≡ limits.now.max_bytes) }
+    ensures version { IfOk result (λ s. s.version ≡ limits.now.version) }
     ensures unserved { IfOk result (λ s. s.saturation.state.served ≡ []) }
     ensures refused { IfErr result (RefusesKnown limits.now.version (F.content files.now path.now) limits.now.max_bytes) }
     ensures blames { IfErr result (BlamesFile F.reads_fail (F.is_known files.now) (F.content files.now path.now)) }
