@@ -12,6 +12,7 @@ use Rattle.cli.specs.declared.fault.ClassifyFault.{ClassifyFault}
 use Rattle.cli.specs.declared.fault.ClassifyFault.TheVariants as classifying
 use Rattle.classification.specs.declared.classification.Summary.{Summary}
 use Rattle.device.specs.Device.{HasFailed}
+use Rattle.profile.specs.declared.fault.DocumentFault.{DocumentFault}
 use Rattle.profile.specs.declared.fault.DocumentFault.TheVariants as reading
 use Rattle.program.specs.declared.version.Version.{Version}
 use Rattle.session.specs.TextAnswers.{IsRead}
@@ -23,7 +24,7 @@ use Rattle.session.specs.declared.question_fault.QuestionFault.TheVariants as as
 pub asks_file : {X : Type 0} (fails known : Bool) (held : Option (List ℕ)) (answer : Result X QuestionFault) (limit : ℕ) (old new : SourceState) → IsSourceOf known held old → IsOfFiles fails known new → IsRead answer old new → (IsErrOf answer (asking.Document reading.TooLarge) → new.most + limit < old.most) → AsksFile fails known held answer
 asks_file fails known held (Ok x) limit old new is of read beyond = read_there known held old new is read
 asks_file fails known held (Err (asking.Document fault)) limit old new is of read beyond =
-    read_blamed fails known held fault limit old new is of read (λ same. beyond (ap asking.Document same))
+    read_blamed fails known held fault limit old new is of read (λ same. beyond (ap (λ (f : DocumentFault). Err (asking.Document f)) same))
 asks_file fails known held (Err asking.Limit) limit old new is of read beyond = read_there known held old new is read
 asks_file fails known held (Err (asking.UnknownName name)) limit old new is of read beyond = read_there known held old new is read
 asks_file fails known held (Err (asking.Expression fault)) limit old new is of read beyond = read_there known held old new is read
@@ -99,7 +100,7 @@ written_some (suc (suc (suc (suc n)))) old new texts before behind working count
 pub classifies_file : (s : Store) (version : Version) (format : Format) (facts bytes : ℕ) (held left : Option (List ℕ)) (answer : Result Summary ClassifyFault) (source source' : SourceState) (old new : Sinks) → IsSourceOf s.is_known held source → IsOfFiles s.reads_fail s.is_known source' → AreWorking old → AreCounted new s.failed_before s.failed_behind → IsDocumentRead answer source source' → (IsErrOf answer (classifying.Document reading.TooLarge) → source'.most + bytes < source.most) → IsClassification version format bytes facts left old new answer → ClassifiesFile s held answer
 classifies_file s version format facts bytes held left (Ok summary) source source' old new file of working counted read beyond is = (read_there s.is_known held source source' file read, written_none old new is.0 _ _ working counted is.2)
 classifies_file s version format facts bytes held left (Err (classifying.Document fault)) source source' old new file of working counted read beyond is =
-    (read_blamed s.reads_fail s.is_known held fault bytes source source' file of read (λ same. beyond (ap classifying.Document same)), none new _ _ counted (untouched old new working is.1))
+    (read_blamed s.reads_fail s.is_known held fault bytes source source' file of read (λ same. beyond (ap (λ (f : DocumentFault). Err (classifying.Document f)) same)), none new _ _ counted (untouched old new working is.1))
 classifies_file s version format facts bytes held left (Err classifying.Memory) source source' old new file of working counted read beyond is = (read_there s.is_known held source source' file read, none new _ _ counted (untouched old new working is.1))
 classifies_file s version format facts bytes held left (Err classifying.Limit) source source' old new file of working counted read beyond is = (read_there s.is_known held source source' file read, none new _ _ counted (untouched old new working is.1))
 classifies_file s version format facts bytes held left (Err (classifying.Io n)) source source' old new file of working counted read beyond is = (read_there s.is_known held source source' file read, written_some n old new is.1.1 _ _ working counted is.1.3)

@@ -6,7 +6,8 @@ use Rattle.cert_check.specs.SourceVerdicts.{IsBadText, IsJudgedFrom, IsVerdictWi
 use Rattle.cert_check.specs.declared.verdict.Reason.TheVariants.{AxiomFails, BadLine, BadText, ClaimDisagrees, ClaimMissing, IndividualDisagrees, InstancesDiffer, NoContradiction, TaxonomyDiffers}
 use Rattle.cert_check.specs.declared.verdict.Verdict.{Verdict}
 use Rattle.cert_check.specs.declared.verdict.Verdict.TheVariants.{Accepted, Rejected}
-use Rattle.certificate.specs.Certificate.{Certificate, One}
+use Rattle.certificate.specs.Certificate.{Certificate}
+use Rattle.certificate.specs.declared.format.Format.TheVariants.{One}
 use Rattle.certificate.specs.Prefixes.{IsNoText}
 use Rattle.certificate.specs.SourceReading.{StopsGoingOn}
 use Rattle.certificate.specs.Text.{certificate_text}

@@ -12,6 +12,7 @@ use Rattle.cli.specs.declared.checking.Checked.{Checked}
 use Rattle.cli.specs.declared.fault.CheckFault.{CheckFault}
 use Rattle.cli.specs.declared.fault.CheckFault.TheVariants as checking
 use Rattle.command_line.specs.declared.tasks.Paths.{Paths}
+use Rattle.profile.specs.declared.fault.DocumentFault.{DocumentFault}
 use Rattle.profile.specs.declared.fault.DocumentFault.TheVariants as reading
 use Rattle.program.specs.declared.version.Version.{Version}
 use Rattle.source_lines.specs.Sources.{SourceState}
@@ -66,7 +67,7 @@ checks_files fails known content paths limit old new (Ok checked) is of read bey
   },
 )
 checks_files fails known content paths limit old new (Err (checking.Document fault)) is of read beyond =
-    read_blamed fails known _ fault limit old.document new.document is.document of.document read.0 (λ same. beyond (ap checking.Document same))
+    read_blamed fails known _ fault limit old.document new.document is.document of.document read.0 (λ same. beyond (ap (λ (f : DocumentFault). Err (checking.Document f)) same))
 checks_files fails known content paths limit old new (Err checking.Memory) is of read beyond = read_there known _ old.document new.document is.document read.0
 checks_files fails known content paths limit old new (Err (checking.Io n)) is of read beyond =
     text_blamed n fails known content paths old new is of (read_there known _ old.document new.document is.document read.0) read.1

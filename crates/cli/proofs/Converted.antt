@@ -5,7 +5,7 @@ use Rattle.std.specs.Io.KnownBytes.{Keeps}
 use Rattle.std.proofs.KnownBytes.{Keeps-refl}
 use Rattle.axioms.specs.Ontology.{Ontology}
 use Rattle.axioms.specs.WellFormedness.{IsOntology}
-use Rattle.cert_check.specs.Conversions.{IsBegun, IsConversion, IsConvertFault, IsConverted}
+use Rattle.cert_check.specs.Conversions.{IsConversion}
 use Rattle.cert_check.specs.declared.conversion.ConvertFault.{ConvertFault}
 use Rattle.cert_check.specs.declared.conversion.ConvertFault.TheVariants.{BadText, Io, LaterPremise, Memory}
 use Rattle.certificate.specs.declared.format.Format.{Format}
@@ -35,14 +35,6 @@ use Rattle.source_lines.specs.Sources.{SourceState}
 use Rattle.system_files.specs.Contents.{Content, nothing_taken}
 
 -- ---- one call
-
--- what the clauses of the call say, by its answers
-pub converts : {X : Type 0} (o : Ontology) (text : List ℕ) (format : Format) (old new : Device) (r : Result X ConvertFault) → OnOk r (IsConverted o text format old.0 new.0) → IfErr r (IsConvertFault o text format) → (IsErrOf r Io → IsBegun o text format old.0 new.0) → (IsErrOf r Io → HasFailed old.1 new.1) → (¬ IsErrOf r Io → OnErr r (Keeps old.0 new.0)) → (¬ IsErrOf r Io → new.1 ≡ old.1) → Converts o format (Takes old new) (FailsIn old new) (IsUntaken old new) text r
-converts o text format old new (Ok x) ok fault begun failed untouched unfailed = (ok.0, ok.1, (ok.2, unfailed (λ e. absurd (cc))))
-converts o text format old new (Err Io) ok fault begun failed untouched unfailed = let b = begun refl in (b.0, b.1, (b.2, failed refl))
-converts o text format old new (Err (BadText at)) ok fault begun failed untouched unfailed = (fault, (untouched (λ e. absurd (cc)), unfailed (λ e. absurd (cc))))
-converts o text format old new (Err (LaterPremise line)) ok fault begun failed untouched unfailed = (fault, (untouched (λ e. absurd (cc)), unfailed (λ e. absurd (cc))))
-converts o text format old new (Err Memory) ok fault begun failed untouched unfailed = (fault, (untouched (λ e. absurd (cc)), unfailed (λ e. absurd (cc))))
 
 -- a sink that is not called has taken nothing
 pub untaken : (sink : Device) → IsUntaken sink sink
@@ -130,28 +122,28 @@ convert_answer c limits known content content' d e old new (Err Unread) kd ke fr
 not_counted : (s : Store) (old new : Device) → old.1 ≡ 0 → IsCounted s.failed_before s.failed_behind new.1 → new.1 ≡ old.1 → NoWriteFails s
 not_counted s old new none counted same = counted.unfailed (same ∙ none)
 
-fault_counted : {X : Type 0} (s : Store) (o : Ontology) (format : Format) (old new : Device) (text : List ℕ) (fault : ConvertFault) → old.1 ≡ 0 → IsCounted s.failed_before s.failed_behind new.1 → Converts {X = X} o format (Takes old new) (FailsIn old new) (IsUntaken old new) text (Err fault) → BlamesWrites s fault
-fault_counted s o format old new text (BadText at) none counted is = not_counted s old new none counted is.1.1
-fault_counted s o format old new text (LaterPremise line) none counted is = not_counted s old new none counted is.1.1
-fault_counted s o format old new text Memory none counted is = not_counted s old new none counted is.1.1
-fault_counted s o format old new text Io none counted is = counted.failed (some_failed old new is.0 none is.2)
+fault_counted : (X : Type 0) (s : Store) (o : Ontology) (format : Format) (old new : Device) (text : List ℕ) (fault : ConvertFault) → old.1 ≡ 0 → IsCounted s.failed_before s.failed_behind new.1 → Converts {X = X} o format (Takes old new) (FailsIn old new) (IsUntaken old new) text (Err fault) → BlamesWrites s fault
+fault_counted X s o format old new text (BadText at) none counted is = not_counted s old new none counted is.1.1
+fault_counted X s o format old new text (LaterPremise line) none counted is = not_counted s old new none counted is.1.1
+fault_counted X s o format old new text Memory none counted is = not_counted s old new none counted is.1.1
+fault_counted X s o format old new text Io none counted is = counted.failed (some_failed old new is.0 none is.2)
 
 -- which files are there, and which device is to blame
 converts_files : {X : Type 0} (c : Conversion) (limits : Limits) (s : Store) (content : Content) (before after : SourceState × SourceState) (old new : Device) (answer : Result X ConversionFault) → IsSourceOf s.is_known (content c.document.now) before.0 → IsSourceOf s.is_known (content c.certificate.now) before.1 → IsOfFiles s.reads_fail s.is_known after.0 → IsOfFiles s.reads_fail s.is_known after.1 → old.1 ≡ 0 → IsCounted s.failed_before s.failed_behind new.1 → IsConversionAnswer limits.version limits.max_bytes (format_of c.format) before.0.left before.1.left (Takes old new) (FailsIn old new) (IsUntaken old new) answer → AreBothRead answer before after → (IsErrOf answer (Document reading.TooLarge) → after.0.most + limits.max_bytes < before.0.most) → ConvertsFiles s content c answer
 converts_files c limits s content before after old new (Ok x) document certificate of of' none counted is read beyond =
     ((read_there s.is_known _ before.0 after.0 document read.0, read_there s.is_known _ before.1 after.1 certificate read.1), not_counted s old new none counted is.related.2.1)
 converts_files c limits s content before after old new (Err (Document fault)) document certificate of of' none counted is read beyond =
-    (read_blamed s.reads_fail s.is_known _ fault limits.max_bytes before.0 after.0 document of read.0 (λ same. beyond (ap Document same)), not_counted s old new none counted is.1.1)
+    (read_blamed s.reads_fail s.is_known _ fault limits.max_bytes before.0 after.0 document of read.0 (λ same. beyond (ap (λ (f : DocumentFault). Err (Document f)) same)), not_counted s old new none counted is.1.1)
 converts_files c limits s content before after old new (Err Unread) document certificate of of' none counted is read beyond =
     (read_there s.is_known _ before.0 after.0 document read.0, unreadable s.reads_fail s.is_known _ before.1 after.1 certificate of' read.1, not_counted s old new none counted is.1.1)
 converts_files {X} c limits s content before after old new (Err (Certificate Memory)) document certificate of of' none counted is read beyond =
-    (read_there s.is_known _ before.0 after.0 document read.0, fault_counted {X = X} s is.ontology (format_of c.format) old new is.text Memory none counted is.related)
+    (read_there s.is_known _ before.0 after.0 document read.0, fault_counted X s is.ontology (format_of c.format) old new is.text Memory none counted is.related)
 converts_files {X} c limits s content before after old new (Err (Certificate Io)) document certificate of of' none counted is read beyond =
-    ((read_there s.is_known _ before.0 after.0 document read.0, read_there s.is_known _ before.1 after.1 certificate read.1), fault_counted {X = X} s is.ontology (format_of c.format) old new is.text Io none counted is.related)
+    ((read_there s.is_known _ before.0 after.0 document read.0, read_there s.is_known _ before.1 after.1 certificate read.1), fault_counted X s is.ontology (format_of c.format) old new is.text Io none counted is.related)
 converts_files {X} c limits s content before after old new (Err (Certificate (BadText at))) document certificate of of' none counted is read beyond =
-    ((read_there s.is_known _ before.0 after.0 document read.0, read_there s.is_known _ before.1 after.1 certificate read.1), fault_counted {X = X} s is.ontology (format_of c.format) old new is.text (BadText at) none counted is.related)
+    ((read_there s.is_known _ before.0 after.0 document read.0, read_there s.is_known _ before.1 after.1 certificate read.1), fault_counted X s is.ontology (format_of c.format) old new is.text (BadText at) none counted is.related)
 converts_files {X} c limits s content before after old new (Err (Certificate (LaterPremise line))) document certificate of of' none counted is read beyond =
-    ((read_there s.is_known _ before.0 after.0 document read.0, read_there s.is_known _ before.1 after.1 certificate read.1), fault_counted {X = X} s is.ontology (format_of c.format) old new is.text (LaterPremise line) none counted is.related)
+    ((read_there s.is_known _ before.0 after.0 document read.0, read_there s.is_known _ before.1 after.1 certificate read.1), fault_counted X s is.ontology (format_of c.format) old new is.text (LaterPremise line) none counted is.related)
 
 pub conversion_made : {X : Type 0} (c : Conversion) (limits : Limits) (s : Store) (content content' : Content) (format : Format) (before after : SourceState × SourceState) (old new : Device) (answer : Result X ConversionFault) → format ≡ format_of c.format → IsSourceOf s.is_known (content c.document.now) before.0 → IsSourceOf s.is_known (content c.certificate.now) before.1 → IsOfFiles s.reads_fail s.is_known after.0 → IsOfFiles s.reads_fail s.is_known after.1 → old.0 ≡ nothing_taken s.is_known → old.1 ≡ 0 → IsLeftBy (content c.output.now) (content' c.output.now) new.0 → IsCounted s.failed_before s.failed_behind new.1 → AreOtherFilesKept c.output.now content content' → IsConversionAnswer limits.version limits.max_bytes format before.0.left before.1.left (Takes old new) (FailsIn old new) (IsUntaken old new) answer → AreBothRead answer before after → (IsErrOf answer (Document reading.TooLarge) → after.0.most + limits.max_bytes < before.0.most) → IsConversionMade c limits s content content' answer
 conversion_made c limits s content content' format before after old new answer same document certificate of of' fresh none left counted others is read beyond =

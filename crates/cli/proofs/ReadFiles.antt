@@ -1,10 +1,12 @@
 -- What was read of the source of a file says whether the file is there, and a source that failed whether it is missing.
-use Rattle.std.proofs.Common.{◌≡◌, ◌∙◌, ◌⊎◌, ◌+◌, ◌<◌, ◌-◌, ◌^◌, ◌++◌, ℕ, List, [], ◌∷◌, Bool, true, false, Option, Some, None, length, refl, sym, ap, subst, inl, inr, arith}
+use Rattle.std.proofs.Common.{◌≡◌, ◌∙◌, ◌⊎◌, ◌+◌, ◌<◌, ◌-◌, ◌^◌, ◌++◌, ℕ, List, [], ◌∷◌, Bool, true, false, Option, Some, None, Result, Ok, Err, IfErr, length, refl, sym, ap, subst, inl, inr, arith}
 use Rattle.std.proofs.lemmas.Grind.{common_steps}
+use Rattle.std.specs.Prelude.{IsErrOf}
 use Rattle.std.specs.Io.KnownBytes.{Consumes, IsAtEnd, Keeps}
 use Rattle.cli.specs.Checks.{IsBegun}
 use Rattle.cli.specs.Files.{BlamesFile, IsSourceOf, IsUnreadable}
-use Rattle.device.specs.Device.{HasFailed}
+use Rattle.device.specs.Device.{HasFailed, LosesFront}
+use Rattle.profile.specs.Faults.{IsReadWhole}
 use Rattle.profile.specs.declared.fault.DocumentFault.{DocumentFault}
 use Rattle.profile.specs.declared.fault.DocumentFault.TheVariants as reading
 use Rattle.session.specs.Devices.{IsReadUntil}
@@ -46,7 +48,7 @@ never_beyond old new limit stuck beyond = absurd (omega (arith, stuck.none, beyo
 -- a file is there where its source does what none does that is stuck
 there : (known : Bool) (held : Option (List ℕ)) (s : SourceState) → IsSourceOf known held s → (IsStuck s.left s.most → ⊥) → IsThere known held
 there false held s is free = tt
-there true (Some bytes) s is free = tt
+there true (Some bytes) s is free = refl
 there true None s is free = absurd (free (is.missing refl))
 
 pub read_there : (known : Bool) (held : Option (List ℕ)) (old new : SourceState) → IsSourceOf known held old → IsReadToItsEnd old new → IsThere known held
@@ -106,3 +108,19 @@ read_blamed fails known held (reading.NotUtf8 at) limit old new is of read beyon
 read_blamed fails known held (reading.Lex fault) limit old new is of read beyond = read_there known held old new is read
 read_blamed fails known held (reading.Parse fault) limit old new is of read beyond = read_there known held old new is read
 read_blamed fails known held (reading.Faults found) limit old new is of read beyond = read_there known held old new is read
+
+-- what was read of the document of a session that is not opened
+until : {X : Type 0} (fault : DocumentFault) (old new : SourceState) → LosesFront old.left new.left old.most new.most → (¬ IsErrOf {T = X} (Err fault) reading.Io → new.failures ≡ old.failures) → (IsErrOf {T = X} (Err fault) reading.Io → HasFailed old.failures new.failures) → IsReadWhole fault new.left → IsReadUntil fault old new
+until reading.Io old new lost unfailed failed whole = record { lost = lost; failed = failed refl }
+until reading.Memory old new lost unfailed failed whole = record { lost = lost; unfailed = unfailed (λ e. absurd (cc)) }
+until reading.TooLarge old new lost unfailed failed whole = record { lost = lost; unfailed = unfailed (λ e. absurd (cc)) }
+until reading.TooManyNames old new lost unfailed failed whole = record { on = record { lost = lost; unfailed = unfailed (λ e. absurd (cc)) }; end = whole }
+until (reading.NotUtf8 at) old new lost unfailed failed whole = record { on = record { lost = lost; unfailed = unfailed (λ e. absurd (cc)) }; end = whole }
+until (reading.Lex fault) old new lost unfailed failed whole = record { on = record { lost = lost; unfailed = unfailed (λ e. absurd (cc)) }; end = whole }
+until (reading.Parse fault) old new lost unfailed failed whole = record { on = record { lost = lost; unfailed = unfailed (λ e. absurd (cc)) }; end = whole }
+until (reading.Faults found) old new lost unfailed failed whole = record { on = record { lost = lost; unfailed = unfailed (λ e. absurd (cc)) }; end = whole }
+
+pub opened_blamed : (X : Type 0) (fails known : Bool) (held : Option (List ℕ)) (limit : ℕ) (old new : SourceState) (answer : Result X DocumentFault) → IsSourceOf known held old → IsOfFiles fails known new → LosesFront old.left new.left old.most new.most → (¬ IsErrOf answer reading.Io → new.failures ≡ old.failures) → (IsErrOf answer reading.Io → HasFailed old.failures new.failures) → IfErr answer (λ e. IsReadWhole e new.left) → (IsErrOf answer reading.TooLarge → new.most + limit < old.most) → IfErr answer (BlamesFile fails known held)
+opened_blamed X fails known held limit old new (Ok x) is of lost unfailed failed whole beyond = tt
+opened_blamed X fails known held limit old new (Err fault) is of lost unfailed failed whole beyond =
+    read_blamed fails known held fault limit old new is of (until {X = X} fault old new lost unfailed failed whole) (λ same. beyond (ap (λ (f : DocumentFault). Err f) same))

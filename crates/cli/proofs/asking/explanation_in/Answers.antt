@@ -1,11 +1,12 @@
 use Rattle.std.proofs.Common.{[], ◌∷◌, IfErr, IfOk, subst}
 use Rattle.answers.specs.declared.asked.Asked.{Asked}
-use Rattle.cli.proofs.Blamed.{asks_file, unopened_is_blamed, unopened_is_refused}
+use Rattle.cli.proofs.Blamed.{asks_file}
+use Rattle.cli.proofs.ReadFiles.{IsOfFiles}
 use Rattle.cli.proofs.Questions.{fault_in_file, why_in_file}
 use Rattle.cli.specs.Runs.{asked_by}
 use Rattle.session.specs.TextAnswers.{AnswersExplanation, IsFaultOf}
 use Rattle.session.specs.Answers.{class_name, subject_name}
-use Rattle.source_lines.specs.Sources.{SourceState}
+use Rattle.source_lines.specs.Sources.{source_state}
 use Rattle.session.specs.declared.form.Form.{Form}
 use Rattle.cli.proofs.asking.explanation_in.Goals as goal
 
@@ -32,17 +33,12 @@ returns-clause-fault g c =
 
 pub returns-clause-blames : goal.returns-clause-blames
 returns-clause-blames g c =
-    let source = g.F.In.Source in
     let files = g.F.Files in
-    let before = c.in-Ok.document in
-    let after = c.explanation_text.new.source in
-    let old : SourceState = record { left = source.left before; most = source.most before; failures = source.failures before } in
-    let new : SourceState = record { left = source.left after; most = source.most after; failures = source.failures after } in
-    asks_file files.reads_fail (files.is_known c.args.files.now) (files.content c.args.files.now c.args.question.now.document.now) c.explanation_text.result old new c.in-Ok.ensures.there
-    (λ e. g.met.F.Files.unfailing e before) (λ e. g.met.F.Files.unfailing e after) c.explanation_text.ensures.read
-
-pub returns-in-Err-clause-fault : goal.returns-in-Err-clause-fault
-returns-in-Err-clause-fault g c = unopened_is_refused c.args.limits.now.version (g.F.Files.is_known c.args.files.now) _ c.args.limits.now.max_bytes c.in-Err.fault c.in-Err.ensures.fault
-
-pub returns-in-Err-clause-blames : goal.returns-in-Err-clause-blames
-returns-in-Err-clause-blames g c = unopened_is_blamed g.F.Files.reads_fail (g.F.Files.is_known c.args.files.now) _ c.in-Err.fault c.in-Err.ensures.fault
+    let source = g.F.In.Source in
+    let call = c.explanation_text in
+    let known = files.is_known c.args.files.now in
+    let of : IsOfFiles files.reads_fail known (source_state source call.new.source) = record {
+      all_known = λ e. g.met.F.Files.all_known e c.args.files.now;
+      unfailing = λ e. g.met.F.Files.unfailing e call.new.source;
+    } in
+    asks_file files.reads_fail known (files.content c.args.files.now c.args.question.now.document.now) call.result c.args.limits.now.max_bytes (source_state source c.in-Ok.document) (source_state source call.new.source) c.in-Ok.ensures of call.ensures.read call.ensures.beyond

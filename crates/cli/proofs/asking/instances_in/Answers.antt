@@ -1,29 +1,16 @@
-use Rattle.std.proofs.Common.{[], ◌∷◌}
-use Rattle.cli.proofs.Blamed.{asks_file, unopened_is_blamed, unopened_is_refused}
-use Rattle.cli.proofs.Questions.{fault_in_file, instances_in_file}
-use Rattle.session.specs.Answers.{class_name}
-use Rattle.source_lines.specs.Sources.{SourceState}
+use Rattle.cli.proofs.Blamed.{asks_file}
+use Rattle.cli.proofs.ReadFiles.{IsOfFiles}
+use Rattle.source_lines.specs.Sources.{source_state}
 use Rattle.cli.proofs.asking.instances_in.Goals as goal
 
-pub returns-in-Ok-clause-answered : goal.returns-in-Ok-clause-answered
-returns-in-Ok-clause-answered g c = instances_in_file c.instances_text.result _ _ c.args.limits.now c.args.class.now c.in-Ok.ensures.left c.instances_text.ensures.answered
-
-pub returns-in-Ok-clause-fault : goal.returns-in-Ok-clause-fault
-returns-in-Ok-clause-fault g c = fault_in_file c.instances_text.result _ _ c.args.limits.now (class_name c.args.class.now ∷ []) c.in-Ok.ensures.left c.instances_text.ensures.fault
-
-pub returns-in-Ok-clause-blames : goal.returns-in-Ok-clause-blames
-returns-in-Ok-clause-blames g c =
-    let source = g.F.In.Source in
+pub returns-clause-blames : goal.returns-clause-blames
+returns-clause-blames g c =
     let files = g.F.Files in
-    let before = c.in-Ok.document in
-    let after = c.instances_text.new.source in
-    let old : SourceState = record { left = source.left before; most = source.most before; failures = source.failures before } in
-    let new : SourceState = record { left = source.left after; most = source.most after; failures = source.failures after } in
-    asks_file files.reads_fail (files.is_known c.args.files.now) (files.content c.args.files.now c.args.path.now) c.instances_text.result old new c.in-Ok.ensures.there
-    (λ e. g.met.F.Files.unfailing e before) (λ e. g.met.F.Files.unfailing e after) c.instances_text.ensures.read
-
-pub returns-in-Err-clause-fault : goal.returns-in-Err-clause-fault
-returns-in-Err-clause-fault g c = unopened_is_refused c.args.limits.now.version (g.F.Files.is_known c.args.files.now) _ c.args.limits.now.max_bytes c.in-Err.fault c.in-Err.ensures.fault
-
-pub returns-in-Err-clause-blames : goal.returns-in-Err-clause-blames
-returns-in-Err-clause-blames g c = unopened_is_blamed g.F.Files.reads_fail (g.F.Files.is_known c.args.files.now) _ c.in-Err.fault c.in-Err.ensures.fault
+    let source = g.F.In.Source in
+    let call = c.instances_text in
+    let known = files.is_known c.args.files.now in
+    let of : IsOfFiles files.reads_fail known (source_state source call.new.source) = record {
+      all_known = λ e. g.met.F.Files.all_known e c.args.files.now;
+      unfailing = λ e. g.met.F.Files.unfailing e call.new.source;
+    } in
+    asks_file files.reads_fail known (files.content c.args.files.now c.args.path.now) call.result c.args.limits.now.max_bytes (source_state source c.in-Ok.document) (source_state source call.new.source) c.in-Ok.ensures of call.ensures.read call.ensures.beyond

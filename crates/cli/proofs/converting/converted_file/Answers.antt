@@ -1,35 +1,58 @@
-use Rattle.std.proofs.Common.{List, ℕ, Err, refl, sym, subst}
-use Rattle.certificate.specs.declared.format.Format.{Format}
-use Rattle.cli.proofs.Converted.{unconverted_made, unread_made}
-use Rattle.cli.specs.Conversions.{Converts}
-use Rattle.cli.specs.Files.{Store}
-use Rattle.cli.specs.HeldTexts.{Holds, HoldsPrefix, Stays}
-use Rattle.cli.specs.Runs.{IsConversionMade, format_of}
-use Rattle.cli.specs.declared.fault.ConversionFault.{ConversionFault}
+use Rattle.std.proofs.Common.{◌∙◌, ℕ, refl, subst}
+use Rattle.cli.proofs.Blamed.{IsCounted}
+use Rattle.cli.proofs.Converted.{conversion_made}
+use Rattle.cli.proofs.Kept.{refused_memory}
+use Rattle.cli.proofs.ReadFiles.{IsOfFiles}
+use Rattle.cli.proofs.Stored.{one_left, stays}
+use Rattle.cli.specs.Files.{Store, store}
+use Rattle.device.specs.Device.{HasFailed}
+use Rattle.session.specs.Devices.{Device, seen}
+use Rattle.source_lines.specs.Sources.{source_state}
 use Rattle.cli.proofs.converting.converted_file.Goals as goal
 
-pub returns-in-Err-file_bytes : goal.returns-in-Err-file_bytes
-returns-in-Err-file_bytes g c =
-    let files = g.F.Files in
-    let old = c.args.files.now in
-    let store : Store = record { is_known = files.is_known old; reads_fail = files.reads_fail; failed_before = files.failed_writes old; failed_behind = files.failed_writes old } in
-    let P : ConversionFault → Type 0 = λ fault. IsConversionMade {X = Unit {0}} c.args.conversion.now c.args.limits.now store (files.content old) (files.content old) (Err fault) in
-    subst P (sym c.conversion_fault.ensures)
-    (unread_made c.args.conversion.now c.args.limits.now store (files.content old) c.in-Ok.ontology c.in-Err-file_bytes.fault refl c.in-Ok.ensures.read c.well_formed-2.ensures c.in-Ok.ensures.there c.in-Err-file_bytes.ensures.fault)
+pub returns-in_default : goal.returns-in_default
+returns-in_default g c = record { answered = (refused_memory _ _ _, stays (g.F.Files.is_known c.args.files.now) _ _ refl); blames = (tt, refl); others = λ other no. refl }
+
+pub returns-in_default-writer : goal.returns-in_default-writer
+returns-in_default-writer g c = record {
+  answered = (refused_memory _ _ _, stays (g.F.Files.is_known c.args.files.now) _ _ (c.writer.ensures.kept c.args.conversion.now.output.now));
+  blames = (tt, c.writer.ensures.unfailed);
+  others = λ other no. c.writer.ensures.kept other;
+}
 
 pub returns : goal.returns
 returns g c =
     let files = g.F.Files in
-    let old = c.args.files.now in
-    let new = c.converted_into.new.files in
+    let source = g.F.In.Source in
+    let sink = g.F.Out.Sink in
+    let call = c.convert_certificate-answer in
     let conversion = c.args.conversion.now in
-    let known = files.is_known old in
-    let held = files.content old conversion.output.now in
-    let held' = files.content new conversion.output.now in
-    let o = c.in-Ok.ontology in
-    let fault = c.in-Err-converted_into.fault in
-    let store : Store = record { is_known = known; reads_fail = files.reads_fail; failed_before = files.failed_writes old; failed_behind = files.failed_writes new } in
-    let P : Format → Type 0 = λ format. Converts {X = Unit {0}} o format (Holds known held') (HoldsPrefix known held held') (Stays known held held') c.deref.result.now (Err fault) in
-    let Q : List ℕ → Type 0 = λ text. Converts {X = Unit {0}} o (format_of conversion.format) (Holds known held') (HoldsPrefix known held held') (Stays known held held') text (Err fault) in
-    unconverted_made conversion c.args.limits.now store (files.content old) (files.content new) o c.in-Ok-file_bytes.text.items fault c.in-Ok.ensures.read c.well_formed-2.ensures (c.in-Ok.ensures.there, c.in-Ok-file_bytes.ensures.there) c.in-Ok-file_bytes.ensures.known
-    (subst Q c.deref.ensures.value (subst P c.format_of-format.ensures c.in-Err-converted_into.ensures.converts)) c.in-Err-converted_into.ensures.failed c.in-Err-converted_into.ensures.others
+    let first = c.args.files.now in
+    let made = c.writer.new.self in
+    let last = c.close.new.self in
+    let known = files.is_known first in
+    let s : Store = store files first last in
+    let before = c.in-Ok.sources in
+    let is = c.in-Ok.ensures in
+    let opened = c.in-Ok-writer.converted in
+    let old : Device = seen sink opened in
+    let new : Device = seen sink call.new.converted in
+    let path = call.ensures.path ∙ c.in-Ok-writer.ensures.path in
+    let of : IsOfFiles files.reads_fail known (source_state source call.new.document) = record {
+      all_known = λ e. g.met.F.Files.all_known e first;
+      unfailing = λ e. g.met.F.Files.unfailing e call.new.document;
+    } in
+    let of' : IsOfFiles files.reads_fail known (source_state source call.new.certificate) = record {
+      all_known = λ e. g.met.F.Files.all_known e first;
+      unfailing = λ e. g.met.F.Files.unfailing e call.new.certificate;
+    } in
+    let P : ℕ → Type 0 = λ n. HasFailed n (files.failed_writes last) in
+    let counted : IsCounted (files.failed_writes first) (files.failed_writes last) (sink.failures call.new.converted) = record {
+      unfailed = λ e. c.close.ensures.unfailed e ∙ c.writer.ensures.unfailed;
+      failed = λ h. subst P c.writer.ensures.unfailed (c.close.ensures.failed h);
+    } in
+    conversion_made conversion c.args.limits.now s (files.content first) (files.content last) c.format_of.result
+    (source_state source before.document, source_state source before.certificate) (source_state source call.new.document, source_state source call.new.certificate) old new call.result c.format_of.ensures
+    is.document is.certificate of of' c.in-Ok-writer.ensures.taken c.in-Ok-writer.ensures.failures
+    (one_left (files.content first) (files.content made) (files.content last) (sink.path call.new.converted) conversion.output.now (sink.taken call.new.converted) c.writer.ensures.kept path c.close.ensures.closed)
+    counted (λ other no. c.close.ensures.closed.others other (λ e. no (e ∙ path)) ∙ c.writer.ensures.kept other) call.ensures.answered call.ensures.read call.ensures.beyond

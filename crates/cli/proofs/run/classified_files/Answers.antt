@@ -1,24 +1,21 @@
 use Rattle.std.proofs.Common.{◌∙◌, refl}
-use Rattle.cli.proofs.Blamed.{AreCounted, AreWorking, classifies_file, unopened_is_blamed, unopened_is_refused}
+use Rattle.cli.proofs.Blamed.{AreCounted, AreWorking, classifies_file}
 use Rattle.cli.proofs.Kept.{refused_memory}
 use Rattle.cli.proofs.Left.{at_path, classify_answer}
 use Rattle.cli.proofs.Stored.{AreNew, AreSinksClosed, others_kept, stays}
-use Rattle.source_lines.specs.Sources.{SourceState}
+use Rattle.cli.proofs.ReadFiles.{IsOfFiles}
+use Rattle.source_lines.specs.Sources.{source_state}
 use Rattle.cli.specs.Files.{Store}
 use Rattle.session.specs.WrittenTexts.{Sinks}
 use Rattle.cli.proofs.run.classified_files.Goals as goal
 
-pub returns-in-Err-clause-made : goal.returns-in-Err-clause-made
-returns-in-Err-clause-made g c =
-    let known = g.F.Files.is_known c.args.files.now in
-    record {
-      answered = (unopened_is_refused c.args.limits.now.version known _ c.args.limits.now.max_bytes c.in-Err.fault c.in-Err.ensures.fault, λ path. stays known _ _ refl);
-      blames = (unopened_is_blamed g.F.Files.reads_fail known _ c.in-Err.fault c.in-Err.ensures.fault, refl);
-      others = λ path no_taxonomy no_instances no_certificate. refl;
-    }
-
 pub returns-in_default-clause-made : goal.returns-in_default-clause-made
 returns-in_default-clause-made g c =
+    let known = g.F.Files.is_known c.args.files.now in
+    record { answered = (refused_memory _ _ _, λ path. stays known _ _ refl); blames = (tt, refl); others = λ path no_taxonomy no_instances no_certificate. refl }
+
+pub returns-in_default-sinks_of-clause-made : goal.returns-in_default-sinks_of-clause-made
+returns-in_default-sinks_of-clause-made g c =
     let known = g.F.Files.is_known c.args.files.now in
     record {
       answered = (refused_memory _ _ _, λ path. stays known _ _ (c.sinks_of.ensures.kept path));
@@ -38,7 +35,7 @@ returns-clause-made g c =
     let made = c.in-Ok-sinks_of.sinks in
     let fresh = c.in-Ok-sinks_of.ensures.fresh in
     let working = c.in-Ok-sinks_of.ensures.working in
-    let call = c.classify_telling-classified in
+    let call = c.classify_document-classified in
     let after = call.new in
     let kept = call.ensures.paths in
     let before = c.in-Ok.document in
@@ -67,11 +64,15 @@ returns-clause-made g c =
       certificate = record { unfailed = c.close-3.ensures.unfailed; failed = c.close-3.ensures.failed };
     } in
     let store : Store = record { is_known = known; reads_fail = files.reads_fail; failed_before = files.failed_writes c.args.files.now; failed_behind = files.failed_writes c.close-3.new.self } in
-    let state : SourceState = record { left = source.left before; most = source.most before; failures = source.failures before } in
-    let state' : SourceState = record { left = source.left after.source; most = source.most after.source; failures = source.failures after.source } in
+    let state = source_state source before in
+    let state' = source_state source after.source in
+    let of : IsOfFiles files.reads_fail known state' = record {
+      all_known = λ e. g.met.F.Files.all_known e c.args.files.now;
+      unfailing = λ e. g.met.F.Files.unfailing e after.source;
+    } in
     record {
       answered = classify_answer paths format limits known content content' (source.left before) old_sinks new_sinks call.result c.in-Ok.ensures.left are_new call.ensures.answered closed;
-      blames = classifies_file store limits.version format limits.max_facts limits.max_bytes (content paths.document.now) (source.left before) call.result state state' old_sinks new_sinks c.in-Ok.ensures.there
-          (λ e. g.met.F.Files.unfailing e before) (λ e. g.met.F.Files.unfailing e after.source) are_working counted call.ensures.read call.ensures.answered;
+      blames = classifies_file store limits.version format limits.max_facts limits.max_bytes (content paths.document.now) (source.left before) call.result state state' old_sinks new_sinks c.in-Ok.ensures of
+          are_working counted call.ensures.read call.ensures.beyond call.ensures.answered;
       others = others_kept paths _ _ _ content content' closed;
     }

@@ -1,9 +1,8 @@
 use Rattle.std.proofs.Common.{refl, sym, subst, Result}
-use Rattle.axioms.specs.Ontology.{Ontology}
-use Rattle.cert_check.specs.declared.verdict.Verdict.{Verdict}
 use Rattle.cli.proofs.Telling.{told}
 use Rattle.cli.specs.Runs.{IsCheckTold}
 use Rattle.cli.specs.Messages.{IsCheckText, Output, check_status}
+use Rattle.cli.specs.declared.checking.Checked.{Checked}
 use Rattle.cli.specs.declared.fault.CheckFault.{CheckFault}
 use Rattle.cli.proofs.run.tell_checked.Goals as goal
 
@@ -14,5 +13,5 @@ returns-in-Err g c =
     let fault = c.in-Err.fault in
     let old : Output = record { out = (g.O.Sink.taken c.args.out.now, g.O.Sink.failures c.args.out.now); err = (g.E.Sink.taken c.args.err.now, g.E.Sink.failures c.args.err.now) } in
     let new : Output = record { out = old.out; err = (g.E.Sink.taken c.tell.new.err, g.E.Sink.failures c.tell.new.err) } in
-    let P : Result (Ontology × Verdict) CheckFault → Type 0 = λ answer. IsCheckTold paths limits.max_bytes answer old new c.tell.result in
+    let P : Result Checked CheckFault → Type 0 = λ answer. IsCheckTold paths limits.max_bytes answer old new c.tell.result in
     subst P (sym c.in-Err.is) (refl, told old.err new.err c.check_message.result (IsCheckText paths limits.max_bytes fault) (check_status fault) c.tell.result c.check_message.ensures c.tell.ensures)

@@ -1,7 +1,6 @@
 use Rattle.std.proofs.Common.{Bool, true, [], refl, subst, sym}
 use Rattle.cli.specs.Filing.{IsBegunIn, IsRunOn}
 use Rattle.session.proofs.Told.{progress_behind}
-use Rattle.speech.specs.declared.session_service.SessionService.{SessionService}
 use Rattle.cli.proofs.Filed.{kept_on, run_on}
 use Rattle.cli.proofs.slicing.run_slices.Goals as goal
 
@@ -16,10 +15,8 @@ loop-end-init g c = record {
 pub returns-then-not-run_slice-clause-begun : goal.returns-then-not-run_slice-clause-begun
 returns-then-not-run_slice-clause-begun g c =
     let old = c.args.service.now in
-    let new : SessionService = record { alloc = c.loop-end.service.alloc; session = c.run_slice.new.session; limits = c.loop-end.service.limits } in
     let is = c.loop-end.invariant in
-    let P : Bool → Type 0 = λ slices. IsBegunIn slices old new in
-    subst P (sym c.if-not-slices.false) (is.limits, run_on old.limits new.limits old.session c.loop-end.service.session new.session c.loop-end.end is.limits is.run_on c.loop-end-test.true c.run_slice.ensures.call c.run_slice.ensures.session)
+    subst (λ (slices : Bool). IsBegunIn slices old _) (sym c.if-not-slices.false) (is.limits, run_on old.limits c.loop-end.service.limits old.session c.loop-end.service.session new.session c.loop-end.end is.limits is.run_on c.loop-end-test.true c.run_slice.ensures.call c.run_slice.ensures.session)
 
 pub loop-end-preserved : goal.loop-end-preserved
 loop-end-preserved g c =

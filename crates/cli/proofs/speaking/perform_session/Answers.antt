@@ -6,11 +6,8 @@ use Rattle.profile.specs.Messages.{status_of}
 use Rattle.cli.proofs.Filed.{same_seen, spoken_over}
 use Rattle.session.proofs.Told.{progress_behind}
 use Rattle.cli.proofs.Telling.{nothing_told, told}
-use Rattle.cli.specs.Filing.{Filed}
 use Rattle.session.specs.Devices.{seen}
-use Rattle.speech.specs.declared.session_service.SessionService.{SessionService}
 use Rattle.cli.specs.Messages.{outputs}
-use Rattle.cli.specs.Speaking.{input_path}
 use Rattle.cli.proofs.speaking.perform_session.Goals as goal
 
 pub returns-in-Err : goal.returns-in-Err
@@ -28,48 +25,40 @@ returns-in-Err g c =
       files = record { kept = λ path. refl; unfailed = refl };
     })))
 
-pub returns-in-Err-document_of : goal.returns-in-Err-document_of
-returns-in-Err-document_of g c =
-    let limits = c.args.limits.now in
-    let fault = c.in-Err-document_of.fault in
-    let old = outputs g.O.Sink g.E.Sink c.args.out.now c.tell_opened.new.err in
-    let new = outputs g.O.Sink g.E.Sink c.args.out.now c.tell-in-Err-document_of.new.err in
-    record {
-      begun = old;
-      unprinted = refl;
-      progress = c.tell_opened.ensures;
-      holds = inr (inr (record {
-        fault = fault;
-        unopened = c.in-Err-document_of.ensures.fault;
-        unprinted = refl;
-        told = told old.err new.err c.document_message-in-Err-document_of.result (IsDocumentText input_path limits.max_bytes fault) (status_of fault) c.tell-in-Err-document_of.result
-            c.document_message-in-Err-document_of.ensures c.tell-in-Err-document_of.ensures;
-        files = record { kept = λ path. refl; unfailed = refl };
-      }));
-    }
+pub returns-in_default : goal.returns-in_default
+returns-in_default g c = record {
+  begun = outputs g.O.Sink g.E.Sink c.args.out.now c.tell_opened.new.err;
+  unprinted = refl;
+  progress = c.tell_opened.ensures;
+  holds = inr (inr (record {
+    session = c.in-Ok.session;
+    opened = record { read = c.in-Ok.ensures.opened; limit = c.in-Ok.ensures.limit; unserved = c.in-Ok.ensures.unserved; session = c.well_formed-2.ensures.session };
+    unprinted = refl;
+    told = c.tell_out_of_memory.ensures;
+    files = record { kept = λ path. refl; unfailed = refl };
+  }));
+}
 
 pub returns : goal.returns
 returns g c =
     let files = g.F.Files in
     let call = c.converse_over_files in
-    let service : SessionService = record { alloc = c.args.alloc; session = c.in-Ok.session; limits = c.args.limits.now } in
-    let first : Filed = record { service = service; content = files.content c.args.files.now; failed_writes = files.failed_writes c.args.files.now } in
-    let before = source_state g.F.In.Source c.in-Ok-document_of.input in
+    let before = source_state g.F.In.Source c.in-Ok-source_of.input in
     let after = source_state g.F.In.Source call.new.source in
     record {
       begun = outputs g.O.Sink g.E.Sink c.args.out.now call.new.service.err.now;
       unprinted = refl;
       progress = progress_behind c.args.told _ _ _ c.tell_opened.ensures call.ensures.progress;
       holds = inl (record {
-        service = service;
+        service = _;
         last = call.new.service.service.now;
-        opened = record { read = c.in-Ok.ensures.opened; limit = c.in-Ok.ensures.limit; unserved = c.in-Ok.ensures.unserved };
+        opened = record { read = c.in-Ok.ensures.opened; limit = c.in-Ok.ensures.limit; unserved = c.in-Ok.ensures.unserved; session = c.well_formed-2.ensures.session };
         limits_are = refl;
         before = before;
         after = after;
-        left = c.in-Ok-document_of.ensures.left;
+        input = c.in-Ok-source_of.ensures;
         ending = call.result;
-        spoken = spoken_over files (files.is_known c.args.files.now) c.args.told c.args.path first call.new.service.service.now call.new.service.files.now _ before after
+        spoken = spoken_over files (files.is_known c.args.files.now) c.args.told c.args.path _ call.new.service.service.now call.new.service.files.now _ before after
             (seen g.O.Sink c.args.out.now) (seen g.O.Sink call.new.sink) call.result (search rules) call.ensures.spoken;
         status_is = c.code.ensures ∙ ap code_of c.status.ensures;
         quiet = same_seen g.E.Sink _ call.new.service.err.now (search rules);
