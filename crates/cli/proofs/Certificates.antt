@@ -1,5 +1,6 @@
 -- What is read of a certificate's source, and what the verdict on it is on.
 use Rattle.std.proofs.Common.{◌≡◌, ℕ, List, [], ◌++◌, Option, Some, None, Result, Ok, Err, IfOk, IfErr, inl, inr, refl, sym, subst}
+use Rattle.std.proofs.lemmas.List.Elements.{All-nil}
 use Rattle.std.specs.Io.KnownBytes.{Consumes}
 use Rattle.axioms.specs.Ontology.{Ontology}
 use Rattle.cert_check.specs.SourceVerdicts.{IsBadText, IsJudgedFrom, IsVerdictWith}
@@ -23,15 +24,14 @@ read_on : (old new : SourceState) (taken : List ℕ) → Gives old new taken →
 read_on old new taken given unfailed = record { lost = (taken, given.consumed, given.fell); unfailed = unfailed }
 
 -- a certificate of no lines, which lists nothing
-empty : Certificate
+abbrev empty : Certificate
 empty = record { lines = []; listed = None }
 
-empty_text : List ℕ
+abbrev empty_text : List ℕ
 empty_text = certificate_text One empty
 
 empty_is : (o : Ontology) → IsSomeTextOf o empty_text empty
-unfolding empty_text
-empty_is o = (One, record { has_text = record { lines = []; listed = tt; premises = []; numbers = []; written = tt }; spelled = refl })
+empty_is o = (One, record { has_text = record { lines = All-nil _; listed = tt; premises = All-nil _; numbers = All-nil _; written = tt }; spelled = refl })
 
 -- not every text is that of none
 some_text : (o : Ontology) (t i taken : List ℕ) (at : ℕ) → taken ≡ [] → ((rest : List ℕ) → IsVerdictWith o t i (taken ++ rest) (Rejected (BadText at))) → ⊥

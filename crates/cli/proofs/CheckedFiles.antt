@@ -1,5 +1,5 @@
 -- A check of sources of files is one of the files, and says which of them are there.
-use Rattle.std.proofs.Common.{◌≡◌, ◌+◌, ◌<◌, ℕ, zero, suc, List, Bool, Option, Result, Ok, Err, ap, inl, inr}
+use Rattle.std.proofs.Common.{◌+◌, ◌<◌, ℕ, zero, suc, List, Bool, Option, Result, Ok, Err, ap, inl, inr}
 use Rattle.std.specs.Prelude.{IsErrOf}
 use Rattle.std.specs.Io.KnownBytes.{Keeps}
 use Rattle.cert_check.specs.declared.verdict.Verdict.{Verdict}

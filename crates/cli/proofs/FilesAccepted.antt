@@ -19,7 +19,6 @@ use Rattle.command_line.specs.declared.tasks.Paths.{Paths}
 use Rattle.command_line.specs.declared.tasks.Task.{Task}
 use Rattle.cli.specs.declared.checking.Checked.{Checked}
 use Rattle.cli.specs.declared.fault.CheckFault.{CheckFault}
-use Rattle.cli.specs.declared.fault.CheckFault.TheVariants as checking
 use Rattle.cli.proofs.WrittenAccepted.{written_is_accepted}
 use Rattle.cli.specs.Checks.{IsChecked, IsCheckFault}
 use Rattle.session.specs.Devices.{Device}

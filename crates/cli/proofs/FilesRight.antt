@@ -5,9 +5,8 @@ use Rattle.cert_check.specs.declared.verdict.Verdict.{Verdict}
 use Rattle.cert_check.specs.declared.verdict.Verdict.TheVariants.{Accepted, Rejected}
 use Rattle.cli.proofs.AcceptedRight.{accepted_right}
 use Rattle.cli.proofs.FilesAccepted.{checked_texts, document_not_done, printed_not_done, told_not_done}
-use Rattle.cli.specs.Files.{Store}
 use Rattle.cli.specs.Messages.{IsAnswered, IsCheckText, Output, check_status, verdict_status, verdict_text}
-use Rattle.cli.specs.Runs.{IsCheckRun, IsCheckTold, IsCheckedFiles}
+use Rattle.cli.specs.Runs.{IsCheckTold, IsCheckedFiles}
 use Rattle.cli.specs.Theorems.{AcceptedFilesAreRight, AreRightFor}
 use Rattle.cli.specs.declared.checking.Checked.{Checked}
 use Rattle.cli.specs.declared.fault.CheckFault.{CheckFault}

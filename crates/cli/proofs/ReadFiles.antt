@@ -1,5 +1,5 @@
 -- What was read of the source of a file says whether the file is there, and a source that failed whether it is missing.
-use Rattle.std.proofs.Common.{◌≡◌, ◌∙◌, ◌⊎◌, ◌+◌, ◌<◌, ◌-◌, ◌^◌, ◌++◌, ℕ, List, [], ◌∷◌, Bool, true, false, Option, Some, None, Result, Ok, Err, IfErr, length, refl, sym, ap, subst, inl, inr, arith}
+use Rattle.std.proofs.Common.{◌≡◌, ◌∙◌, ◌⊎◌, ◌+◌, ◌<◌, ◌-◌, ◌^◌, ◌++◌, ℕ, List, [], ◌∷◌, Bool, true, false, Option, Some, None, Result, Ok, Err, IfErr, length, refl, sym, ap, inl, inr, arith}
 use Rattle.std.proofs.lemmas.Grind.{common_steps}
 use Rattle.std.specs.Prelude.{IsErrOf}
 use Rattle.std.specs.Io.KnownBytes.{Consumes, IsAtEnd, Keeps}
@@ -11,7 +11,7 @@ use Rattle.profile.specs.declared.fault.DocumentFault.{DocumentFault}
 use Rattle.profile.specs.declared.fault.DocumentFault.TheVariants as reading
 use Rattle.session.specs.Devices.{IsReadUntil}
 use Rattle.source_lines.specs.Sources.{FailsInReading, IsReadToItsEnd, SourceState}
-use Rattle.system_files.specs.Contents.{GivesAll, IsMissing, IsStuck, IsThere}
+use Rattle.system_files.specs.Contents.{IsMissing, IsStuck, IsThere}
 
 -- ---- a source that is stuck
 

@@ -1,27 +1,20 @@
 -- What a run of `session` was asked and what it left.
-use Rattle.std.proofs.Common.{◌≡◌, ◌∙◌, ◌++◌, ◌∷◌, [], ℕ, List, Bool, Option, Some, None, ap, inl, inr, refl, sym, subst, append_assoc, append-nil}
-use Rattle.std.specs.Borrow.{Bor}
+use Rattle.std.proofs.Common.{◌≡◌, ◌∙◌, ◌++◌, ◌∷◌, [], ℕ, List, Option, Some, None, ap, inl, inr, refl, sym, subst, append_assoc}
 use Rattle.std.specs.List.{flat_map}
 use Rattle.std.specs.Io.KnownBytes.{Consumes, IsAtEnd, Keeps}
 use Rattle.cli.proofs.Filed.{calls_of, one_document}
 use Rattle.cli.specs.Filing.{Filed, filing_service}
-use Rattle.cli.specs.Files.{Store}
-use Rattle.cli.specs.Messages.{Output}
-use Rattle.cli.specs.Speaking.{IsSpoken, input_path}
-use Rattle.cli.specs.SpokenSessions.{AreRepliesTold, IsAnsweredSession, SpokenSessionsAreAnswered}
-use Rattle.profile.specs.Documents.{OpensAs}
+use Rattle.cli.specs.SpokenSessions.{AreRepliesTold, SpokenSessionsAreAnswered}
 use Rattle.profile.specs.Faults.{OpensKnown}
-use Rattle.program.specs.declared.limits.Limits.{Limits}
 use Rattle.session.specs.Devices.{Device}
 use Rattle.session.specs.Edits.{IsSessionOver}
 use Rattle.session.specs.Sessions.{as_read}
 use Rattle.source_lines.specs.Sources.{SourceState}
 use Rattle.speech.proofs.Exchanging.{exchanged}
-use Rattle.speech.specs.Conversations.{Comes, Exchange, IsLast, text_asked}
+use Rattle.speech.specs.Conversations.{Exchange, IsLast, text_asked}
 use Rattle.speech.specs.Wholes.{IsEndBehind, IsExchanged}
 use Rattle.speech.specs.declared.conversation.Ending.{Ending}
 use Rattle.speech.specs.declared.conversation.Ending.TheVariants as endings
-use Rattle.system_files.specs.Contents.{Content}
 
 -- ---- what was asked
 

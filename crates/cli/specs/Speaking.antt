@@ -27,6 +27,7 @@ input_path = codes "/dev/stdin"
 pub record IsOpenedAs (limits : Limits) (held : Option (List ℕ)) (s : Opened) : Type 0 where
   pub read : OpensKnown limits.version held limits.max_bytes (as_read s)
   pub limit : s.most_bytes ≡ limits.max_bytes
+  pub version : s.version ≡ limits.version
   pub unserved : s.saturation.state.served ≡ []
   pub session : IsSession s
 

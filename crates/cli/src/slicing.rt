@@ -23,7 +23,6 @@ pub(crate) fn tell_drawn<E: Sink>(session: &Session, told: bool, err: &mut E)
 fn run_slice(session: &mut Session, most: u32) -> bool
     ensures call { (reply : Reply) × IsCall session.old (Resume most) reply session.new }
     ensures session { IsSession session.new }
-    ensures kept { KeepsText session.old session.new }
 {
     let ended = session.resume(most);
     session.well_formed();

@@ -1,5 +1,5 @@
 -- What an ontology keeps that a text is added to.
-use Rattle.std.proofs.Common.{◌≡◌, ℕ, List, length, ap, sym, subst}
+use Rattle.std.proofs.Common.{◌≡◌, ℕ, List, ap, sym, subst}
 use Rattle.axioms.proofs.Fronts.{front_is}
 use Rattle.axioms.specs.Fronts.{front_of, lengths_of}
 use Rattle.axioms.specs.Ontology.{Ontology}

@@ -175,4 +175,11 @@ impl Session {
     {
         self.bytes
     }
+
+    /// How many bytes the document and what was added may have.
+    pub fn max_bytes(&self) -> u64
+        ensures { result ≡ self.now.most_bytes }
+    {
+        self.most_bytes
+    }
 }

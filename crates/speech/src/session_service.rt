@@ -1,5 +1,12 @@
 //! A session that answers commands.
-ghost use Rattle.std.specs.Prelude.{◌≡◌};
+ghost use Rattle.answers.specs.declared.asked.Asked.TheVariants as subjects;
+ghost use Rattle.session.specs.Edits.{Add, Children, Equivalents, Explain, Instances, Parents, Query, Resume, Subclasses, Superclasses};
+ghost use Rattle.session.specs.declared.form.Form.TheVariants.{Lines};
+ghost use Rattle.profile.specs.declared.fault.DocumentFault.TheVariants.{NotUtf8};
+ghost use Rattle.session.specs.declared.question_fault.QuestionFault.TheVariants as faults;
+ghost use Rattle.speech.specs.Answers.{IsCalled, IsFaultTold, IsStep, IsTextCalled, Tells, axiom_at, axiom_told, done, run_text, status_text};
+ghost use Rattle.speech.specs.Replies.{told_by};
+ghost use Rattle.std.specs.Prelude.{◌≡◌, None};
 
 use crate::answering::{
     done_reply, explained_reply, fault_reply, found_reply, groups_reply, names_reply, unfiled_reply,
@@ -15,25 +22,15 @@ use std::alloc::Global;
 use std::str::from_utf8;
 
 /// A session that answers commands, and writes no files. Each `Run` goes on to at most as many facts as the limits have, and so does a
-/// query. The limit of bytes and the version are the session's own.
+/// query. How many bytes may still come with a command goes by the session's own limit.
 #[derive(Drop)]
 pub struct SessionService {
     pub alloc: Global,
     pub session: Session,
     pub limits: Limits,
-    pub ghost bytes: { limits.max_bytes ≡ session.most_bytes },
-    pub ghost version: { limits.version ≡ session.version },
 }
 
 impl SessionService {
-    ghost use Rattle.session.specs.Edits.{Add, Children, Equivalents, Explain, Instances, Parents, Query, Resume, Subclasses, Superclasses};
-    ghost use Rattle.session.specs.declared.form.Form.TheVariants.{Lines};
-    ghost use Rattle.profile.specs.declared.fault.DocumentFault.TheVariants.{NotUtf8};
-    ghost use Rattle.session.specs.declared.question_fault.QuestionFault.TheVariants as faults;
-    ghost use Rattle.speech.specs.Answers.{IsCalled, IsFaultTold, IsStep, IsTextCalled, Tells, axiom_at, axiom_told, done, run_text, status_text};
-    ghost use Rattle.speech.specs.Replies.{told_by};
-    ghost use Rattle.std.specs.Prelude.{None};
-
     /// Adds what the bytes state.
     fn add(&mut self, payload: &[u8]) -> Result<Reply, Memory>
         ensures step { IsTextCalled self.old.limits Add payload.now self.old.session (told_by result) self.new.session }
@@ -224,8 +221,8 @@ impl Service for SessionService {
     ghost room = { λ s. s.session.most_bytes - s.session.bytes };
 
     fn most_payload(&self) -> u64 {
-        self.limits
-            .max_bytes
+        self.session
+            .max_bytes()
             .saturating_sub(self.session.bytes() as u64)
     }
 

@@ -1,6 +1,7 @@
 use Rattle.std.proofs.Common.{Bool, true, [], refl, subst, sym}
 use Rattle.cli.specs.Filing.{IsBegunIn, IsRunOn}
 use Rattle.session.proofs.Told.{progress_behind}
+use Rattle.speech.specs.declared.session_service.SessionService.{SessionService}
 use Rattle.cli.proofs.Filed.{kept_on, run_on}
 use Rattle.cli.proofs.slicing.run_slices.Goals as goal
 
@@ -16,7 +17,9 @@ pub returns-then-not-run_slice-clause-begun : goal.returns-then-not-run_slice-cl
 returns-then-not-run_slice-clause-begun g c =
     let old = c.args.service.now in
     let is = c.loop-end.invariant in
-    subst (λ (slices : Bool). IsBegunIn slices old _) (sym c.if-not-slices.false) (is.limits, run_on old.limits c.loop-end.service.limits old.session c.loop-end.service.session new.session c.loop-end.end is.limits is.run_on c.loop-end-test.true c.run_slice.ensures.call c.run_slice.ensures.session)
+    let new : SessionService = record { alloc = c.loop-end.service.alloc; session = c.run_slice.new.session; limits = c.loop-end.service.limits } in
+    let P : Bool → Type 0 = λ slices. IsBegunIn slices old new in
+    subst P (sym c.if-not-slices.false) (is.limits, run_on old.limits new.limits old.session c.loop-end.service.session c.run_slice.new.session c.loop-end.end is.limits is.run_on c.loop-end-test.true c.run_slice.ensures.call c.run_slice.ensures.session)
 
 pub loop-end-preserved : goal.loop-end-preserved
 loop-end-preserved g c =

@@ -8,6 +8,8 @@ use Rattle.session.proofs.Told.{progress_behind}
 use Rattle.cli.proofs.Telling.{nothing_told, told}
 use Rattle.session.specs.Devices.{seen}
 use Rattle.cli.specs.Messages.{outputs}
+use Rattle.cli.specs.Filing.{Filed}
+use Rattle.speech.specs.declared.session_service.SessionService.{SessionService}
 use Rattle.cli.proofs.speaking.perform_session.Goals as goal
 
 pub returns-in-Err : goal.returns-in-Err
@@ -32,7 +34,7 @@ returns-in_default g c = record {
   progress = c.tell_opened.ensures;
   holds = inr (inr (record {
     session = c.in-Ok.session;
-    opened = record { read = c.in-Ok.ensures.opened; limit = c.in-Ok.ensures.limit; unserved = c.in-Ok.ensures.unserved; session = c.well_formed-2.ensures.session };
+    opened = record { read = c.in-Ok.ensures.opened; limit = c.in-Ok.ensures.limit; version = c.in-Ok.ensures.version; unserved = c.in-Ok.ensures.unserved; session = c.well_formed-2.ensures.session };
     unprinted = refl;
     told = c.tell_out_of_memory.ensures;
     files = record { kept = λ path. refl; unfailed = refl };
@@ -43,6 +45,8 @@ pub returns : goal.returns
 returns g c =
     let files = g.F.Files in
     let call = c.converse_over_files in
+    let service : SessionService = record { alloc = c.args.alloc; session = c.in-Ok.session; limits = c.args.limits.now } in
+    let first : Filed = record { service = service; content = files.content c.args.files.now; failed_writes = files.failed_writes c.args.files.now } in
     let before = source_state g.F.In.Source c.in-Ok-source_of.input in
     let after = source_state g.F.In.Source call.new.source in
     record {
@@ -50,15 +54,15 @@ returns g c =
       unprinted = refl;
       progress = progress_behind c.args.told _ _ _ c.tell_opened.ensures call.ensures.progress;
       holds = inl (record {
-        service = _;
+        service = service;
         last = call.new.service.service.now;
-        opened = record { read = c.in-Ok.ensures.opened; limit = c.in-Ok.ensures.limit; unserved = c.in-Ok.ensures.unserved; session = c.well_formed-2.ensures.session };
+        opened = record { read = c.in-Ok.ensures.opened; limit = c.in-Ok.ensures.limit; version = c.in-Ok.ensures.version; unserved = c.in-Ok.ensures.unserved; session = c.well_formed-2.ensures.session };
         limits_are = refl;
         before = before;
         after = after;
         input = c.in-Ok-source_of.ensures;
         ending = call.result;
-        spoken = spoken_over files (files.is_known c.args.files.now) c.args.told c.args.path _ call.new.service.service.now call.new.service.files.now _ before after
+        spoken = spoken_over files (files.is_known c.args.files.now) c.args.told c.args.path first call.new.service.service.now call.new.service.files.now _ before after
             (seen g.O.Sink c.args.out.now) (seen g.O.Sink call.new.sink) call.result (search rules) call.ensures.spoken;
         status_is = c.code.ensures ∙ ap code_of c.status.ensures;
         quiet = same_seen g.E.Sink _ call.new.service.err.now (search rules);
