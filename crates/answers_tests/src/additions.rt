@@ -670,6 +670,7 @@ fn cut_additions(rt: HostRuntime) -> Result<(), Fail> {
 fn is_limited(alloc: Global, session: &mut Session) -> Result<bool, AllocError> {
     Ok(
         session.bytes() == 42
+            && session.max_bytes() == 77
             && refuses(alloc, session, "SubClassOf(:B :C) SubClassOf(:C :D) ", "U2")?
             && refuses(alloc, session, "SubClassOf(:B :C) SubClassOf(:C ^D) ", "U2")?
             && refuses(
