@@ -91,20 +91,22 @@ fn checked<R: AllocGlobal + RandomSource>(
     failing: usize,
     reads: usize,
 ) -> Result<(Result<Verdict, usize>, [bool; 3]), Fail> {
+    let alloc = rt.alloc();
+    let state = RandomState::new(rt)?;
     let mut document = source_at(ONE_DOCUMENT, 1, failing, reads);
     let mut taxonomy = source_at(&texts.taxonomy, 2, failing, reads);
     let mut instances = source_at(&texts.instances, 3, failing, reads);
     let mut certificate = source_at(&texts.certificate, 4, failing, reads);
     let checked = check_document(
-        rt.alloc(),
+        alloc,
         &mut document,
         &mut taxonomy,
         &mut instances,
         &mut certificate,
         &LIMITS,
         false,
-        &mut BufferSink::new(rt.alloc()),
-        RandomState::new(rt)?,
+        &mut BufferSink::new(alloc),
+        state,
     );
     let answer = match checked {
         Ok(checked) => Ok(checked.verdict),
