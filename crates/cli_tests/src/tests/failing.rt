@@ -7,8 +7,9 @@ use super::formats::changed_to_two;
 use super::speaking::{ASKED_UNWRITTEN, SESSION, files_asked};
 use super::*;
 use cli::{
-    CheckFault, ClassifyFault, ConversionFault, ConvertFault, DocumentFault, Format, Limits,
-    Reason, Summary, Verdict, Version, check_document, classify_document, convert_certificate,
+    CheckFault, Checked, ClassifyFault, ConversionFault, ConvertFault, DocumentFault, Format,
+    Limits, Reason, Summary, Verdict, Version, check_document, classify_document,
+    convert_certificate,
 };
 use device::SliceSource;
 use devices::FailingFiles;
@@ -83,6 +84,14 @@ fn classified<R: AllocGlobal + RandomSource>(
     Ok((answer, texts))
 }
 
+/// The verdict of a check, without the ontology that it is on.
+fn verdict_of(checked: Result<Checked, CheckFault>) -> Result<Verdict, CheckFault> {
+    match checked {
+        Ok(checked) => Ok(checked.verdict),
+        Err(fault) => Err(fault),
+    }
+}
+
 /// What a check of the texts answers where the source at a place fails after some reads, and whether the three sources
 /// of the texts are unread. A fault is given as the place of the source that it names: 1 is the document's.
 fn checked<R: AllocGlobal + RandomSource>(
@@ -108,8 +117,8 @@ fn checked<R: AllocGlobal + RandomSource>(
         &mut BufferSink::new(alloc),
         state,
     );
-    let answer = match checked {
-        Ok(checked) => Ok(checked.verdict),
+    let answer = match verdict_of(checked) {
+        Ok(verdict) => Ok(verdict),
         Err(CheckFault::Document(DocumentFault::Io)) => Err(1),
         Err(CheckFault::Io(number)) => Err(number),
         Err(_) => Err(NOWHERE),
