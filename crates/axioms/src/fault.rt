@@ -4,13 +4,16 @@ ghost use Rattle.axioms.specs.declared.fault.BuildFault.TheVariants as faults;
 
 use device::Memory;
 use std::alloc::{AllocError, AllocFailed};
+use thiserror::Error;
 
 /// Why a name was not declared.
-#[derive(Clone, Copy, Debug, PartialEq, Eq)]
+#[derive(Clone, Copy, Debug, PartialEq, Eq, Error)]
 pub enum BuildFault {
     /// A growth of memory was refused.
+    #[error("out of memory")]
     Memory,
     /// The kind would have more than 1,000,000 names.
+    #[error("more than 1000000 names")]
     TooManyNames,
 }
 

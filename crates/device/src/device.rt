@@ -3,8 +3,11 @@ ghost use Rattle.std.specs.Prelude.{◌≡◌, ◌≤◌, List, ℕ, Option, IfO
 ghost use Rattle.std.specs.Io.KnownBytes.{Keeps};
 ghost use Rattle.device.specs.Device.{Reads, Writes, HasFailed};
 
+use thiserror::Error;
+
 /// A device failed to read or to write.
-#[derive(Clone, Copy, Debug, PartialEq, Eq)]
+#[derive(Clone, Copy, Debug, PartialEq, Eq, Error)]
+#[error("the device failed")]
 pub struct Failed;
 
 /// Where bytes come from, as a file or a slice in memory.

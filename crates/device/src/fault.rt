@@ -4,9 +4,11 @@ ghost use Rattle.device.specs.declared.fault.WriteFault.TheVariants as faults;
 
 use crate::device::Failed;
 use std::alloc::{AllocError, AllocFailed};
+use thiserror::Error;
 
 /// A growth of memory was refused.
-#[derive(Clone, Copy, Debug, PartialEq, Eq)]
+#[derive(Clone, Copy, Debug, PartialEq, Eq, Error)]
+#[error("out of memory")]
 pub struct Memory;
 
 impl From<AllocError> for Memory {
@@ -22,11 +24,13 @@ impl<T: Drop> From<AllocFailed<T>> for Memory {
 }
 
 /// Why a text was not written whole.
-#[derive(Clone, Copy, Debug, PartialEq, Eq)]
+#[derive(Clone, Copy, Debug, PartialEq, Eq, Error)]
 pub enum WriteFault {
     /// The sink failed.
+    #[error("the sink failed")]
     Io,
     /// A growth of memory was refused.
+    #[error("out of memory")]
     Memory,
 }
 

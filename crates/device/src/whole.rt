@@ -5,6 +5,7 @@ ghost use Rattle.device.specs.Device.{HasFailed, AppendsPrefix, LosesFront, IsLo
 
 use crate::device::{Failed, Sink, Source};
 use std::alloc::Global;
+use thiserror::Error;
 
 /// Writes a whole text, in as many pieces as the sink takes.
 ///
@@ -26,13 +27,16 @@ pub fn write_all<S: Sink>(sink: &mut S, text: &[u8]) -> Result<(), Failed>
 }
 
 /// Why a source was not read to its end.
-#[derive(Clone, Copy, Debug, PartialEq, Eq)]
+#[derive(Clone, Copy, Debug, PartialEq, Eq, Error)]
 pub enum ReadFault {
     /// Memory was refused.
+    #[error("out of memory")]
     Memory,
     /// The source failed.
+    #[error("the source failed")]
     Failed,
     /// The source has more bytes than the limit.
+    #[error("more bytes than the limit")]
     TooLarge,
 }
 

@@ -4,13 +4,16 @@ ghost use Rattle.source_lines.specs.declared.fault.StreamFault.TheVariants as fa
 
 use device::{Failed, Memory};
 use std::alloc::AllocError;
+use thiserror::Error;
 
 /// Why a text was not read from a source.
-#[derive(Clone, Copy, Debug, PartialEq, Eq)]
+#[derive(Clone, Copy, Debug, PartialEq, Eq, Error)]
 pub enum StreamFault {
     /// The source failed.
+    #[error("the source failed")]
     Io,
     /// A growth of memory was refused.
+    #[error("out of memory")]
     Memory,
 }
 
