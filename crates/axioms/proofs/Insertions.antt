@@ -40,6 +40,15 @@ module _ {K X : Type 0} (test : K → Bool) (view : K → X) (x : X) (says : (k 
   pub absent : (ks : List K) → list_any test ks ≡ false → Contains (map view ks) x → ⊥
   absent ks none there = true≢false (sym (passes_there ks there) ∙ none)
 
+  -- where x is not there, none passes
+  pub none_passes : (ks : List K) → (Contains (map view ks) x → ⊥) → list_any test ks ≡ false
+  none_passes [] apart = refl
+  none_passes (k ∷ ks) apart = by (test k) refl (none_passes ks (λ there. apart (suc there.0, omega (arith, there.1), there.2)))
+    where
+      by : (b : Bool) → test k ≡ b → list_any test ks ≡ false → list_any test (k ∷ ks) ≡ false
+      by true e rest = absurd (apart (zero, omega arith, (says k).0 e))
+      by false e rest = ap (λ c. c || list_any test ks) e ∙ rest
+
   passes_at : (ks : List K) (n : ℕ) (k : K) → slice_get ks n ≡ Some k → test k ≡ true → list_any test ks ≡ true
   passes_at [] n k at passes = absurd (none-some k at)
   passes_at (d ∷ ks) zero k at passes = or_left (test d) _ (ap test (same_Some d k at) ∙ passes)
@@ -49,6 +58,9 @@ module _ {K X : Type 0} (test : K → Bool) (view : K → X) (x : X) (says : (k 
 module _ {K X : Type 0} (eq : K → K → Bool) (view : K → X) (same : (a b : K) → Decides (eq a b) (view a ≡ view b)) (k : K) where
   says : (l : K) → Decides (eq k l) (view l ≡ view k)
   says l = (λ h. sym ((same k l).0 h), λ e. (same k l).1 (sym e))
+
+  pub unlisted : (ks : List K) → (Contains (map view ks) (view k) → ⊥) → list_any (eq k) ks ≡ false
+  unlisted ks = none_passes (eq k) view (view k) says ks
 
   by_cases : (ks : List K) (n : ℕ) (l : K) (b : Bool) → list_any (eq k) ks ≡ b → slice_get (if b then ks else ks ++ k ∷ []) n ≡ Some l → eq k l ≡ true → Numbers (map view ks) (view k) (map view (if b then ks else ks ++ k ∷ [])) n
   by_cases ks n l true any at e = inl (at_place (eq k) view (view k) says ks n l at e, refl)

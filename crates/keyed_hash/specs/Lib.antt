@@ -1,4 +1,3 @@
 pub mod Hasher
 pub mod States
-pub mod Slots
 pub mod Numbering

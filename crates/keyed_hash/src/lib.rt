@@ -3,13 +3,10 @@
 #![tactic(auto)]
 
 mod hasher;
-mod key;
 mod numbers;
 mod set;
-mod slots;
 mod state;
 
 pub use hasher::KeyedHasher;
-pub use key::Key;
 pub use set::NumberedSet;
 pub use state::KeyedState;

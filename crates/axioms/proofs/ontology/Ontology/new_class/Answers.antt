@@ -1,11 +1,15 @@
-use Rattle.std.proofs.Common.{◌≡◌, ◌<◌, ◌++◌, ◌∷◌, [], Contains, length, map, string_bytes, sym, subst, ap, ◌∙◌, arith}
+use Rattle.std.proofs.Common.{◌≡◌, ◌<◌, ◌++◌, ◌∷◌, [], false, Contains, length, map, string_bytes, sym, subst, ap, ◌∙◌, arith}
 use Rattle.std.proofs.lemmas.List.{length-map, map-append}
 use Rattle.axioms.specs.Growth.{most_names, with_class}
 use Rattle.axioms.specs.Fields.{kept_ontology}
 use Rattle.axioms.specs.Ontology.{Class}
 use Rattle.axioms.specs.View.{node_of}
 use Rattle.axioms.specs.declared.terms.Expr.TheVariants as exprs
-use Rattle.axioms.proofs.Growing.{with_class_is}
+use Rattle.std.specs.List.{list_any}
+use Rattle.std.specs.String.{string_eq}
+use Rattle.axioms.specs.contracts.terms.ExprPartialEq.TheImpl.{ghosts}
+use Rattle.axioms.proofs.Growing.{new_class_node, with_class_is}
+use Rattle.axioms.proofs.Insertions.{unlisted, same_text, same_expr}
 use Rattle.axioms.proofs.Keeping.{bounded_with_class, kept_as, table_of, grown_table, class_pushed}
 use Rattle.axioms.proofs.ontology.Ontology.new_class.Goals as goal
 use Rattle.axioms.proofs.ontology.Ontology.new_class.Goals.{After-push_reserved}
@@ -52,3 +56,19 @@ returns-clause-place c = rw (← c.self.view_is) (place c)
 
 pub returns-clause-ok : goal.returns-clause-ok
 returns-clause-ok c = rw (← c.self.view_is) (grown c)
+
+pub push-requires : goal.push-requires
+push-requires c = record {
+  absent = subst (λ ks. list_any (string_eq c.args.text) ks ≡ false) (sym c.reserve-3.ensures.keys) (unlisted string_eq string_bytes same_text c.args.text c.self.inside.classes.keys (subst (λ o. Contains o.names.classes (string_bytes c.args.text) → ⊥) (sym c.self.view_is) c.requires.new));
+  room = c.in_ok-reserve-3.ensures.room;
+}
+
+pub push-requires-2 : goal.push-requires-2
+push-requires-2 c =
+    let o = kept_ontology c.self.inside in
+    let n-is : c.push.result ≡ length (map string_bytes c.self.inside.classes.keys) = c.push.ensures.number ∙ ap length c.reserve-3.ensures.keys ∙ sym (length-map c.self.inside.classes.keys string_bytes) in
+    let fresh : Contains (map node_of c.self.inside.expressions.keys) (Class c.push.result) → ⊥ = λ there. new_class_node o c.self.invariant.ontology (subst (λ m. Contains o.nodes (Class m)) n-is there) in
+    record {
+      absent = subst (λ ks. list_any (ghosts.eq (exprs.Class (record { 0 = c.push.result }))) ks ≡ false) (sym c.reserve.ensures.keys) (unlisted ghosts.eq node_of same_expr (exprs.Class (record { 0 = c.push.result })) c.self.inside.expressions.keys fresh);
+      room = c.in_ok-reserve.ensures.room;
+    }

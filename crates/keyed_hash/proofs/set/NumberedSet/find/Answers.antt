@@ -1,12 +1,7 @@
-use Rattle.std.proofs.Common.{ap, ◌∙◌}
-use Rattle.keyed_hash.specs.Numbering.{hash_of}
-use Rattle.keyed_hash.proofs.Members.{none_found}
+use Rattle.std.proofs.Common.{sym}
+use Rattle.keyed_hash.proofs.Placed.{placed}
 use Rattle.keyed_hash.proofs.set.NumberedSet.find.Goals as goal
 
-pub returns-clause-absent : goal.returns-clause-absent
-returns-clause-absent g c =
-    let state = c.self.inside.state in
-    rw (← c.self.view_is)
-    (none_found (g.K.Key.matches c.args.key) (λ x. hash_of state (g.T.Hash.hash_input x)) c.self.inside.slots c.self.inside.members.items c.hash_of.result c.self.invariant.1
-    (λ x e. c.hash_of.ensures ∙ ap (hash_of state) (g.met.K.Key.respects_hash c.args.key x e))
-    c.search.result (rw c.deref.ensures.value at c.search.ensures.absent))
+pub returns-in-Some-clause-found : goal.returns-in-Some-clause-found
+returns-in-Some-clause-found g c =
+    rw (← c.self.view_is) (placed (g.K.Equivalent.equivalent c.args.key) c.self.inside.set.keys c.in-Some.place (sym c.in-Some.ensures.index))
