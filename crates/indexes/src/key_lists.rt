@@ -27,10 +27,19 @@ impl Drop for KeyLists {
 }
 
 /// Lists of both kinds that are filled.
-#[derive(Drop)]
 pub(crate) struct KeyFilling {
     pub wholes: Filling,
     pub partials: Filling,
+}
+
+// A value is let go by one call, where each way out would else let each field go.
+impl Drop for KeyFilling {
+    fn drop(self) {
+        let KeyFilling {
+            wholes: _,
+            partials: _,
+        } = self;
+    }
 }
 
 impl KeyFilling {
