@@ -1,8 +1,17 @@
 //! An example of the library: reads a document from standard input, and prints how many names, expressions and axioms its
 //! ontology has, or why it is not read. With a word behind the program's name it also prints how many facts the closure has: what
-//! that takes more is what a saturation takes.
+//! that takes more is what a saturation takes. With the path of a file behind that word it then prints the normal forms of each row
+//! of the file, in a line of its own each.
+//!
+//! A row is a line: a document, and then any number of documents that go on from the one before, after ` => `. Each may be followed
+//! by numbers of expressions that are asked about, after ` ? `.
 #![tactic(auto)]
 
+mod listing;
+mod printing;
+mod rows;
+
+use crate::listing::listed;
 use axioms::Ontology;
 use device::{ReaderSource, Source, WriterSink, write_all};
 use engine::{Stop, saturated};
@@ -11,7 +20,7 @@ use program::{Limits, MOST_BYTES, Status, Version};
 use std::alloc::{AllocError, Global};
 use std::hash::RandomState;
 use std::process::ExitCode;
-use std::{env, io};
+use std::{env, fs, io};
 
 /// How many of each the ontology has, `owl:Thing` and `owl:Nothing` among the classes and the expressions.
 fn counts(alloc: Global, ontology: &Ontology) -> Result<String, AllocError> {
@@ -73,19 +82,31 @@ fn text_of<S: Source>(
     shown(alloc, state, &read, with_facts)
 }
 
-/// Whether a word stands behind the program's name.
-fn has_word(rt: &HostRuntime) -> io::Result<bool> {
-    let words: Vec<String> = env::args(rt)?.collect(rt.alloc())?;
-    Ok(words.len() > 1)
+/// The program's name and the words behind it.
+fn words(rt: &HostRuntime) -> io::Result<Vec<String>> {
+    Ok(env::args(rt)?.collect(rt.alloc())?)
 }
 
-/// What is printed of the document on standard input, and the status.
+/// The normal forms of the rows in the file.
+fn forms_in(rt: &HostRuntime, state: RandomState, path: &str) -> Result<String, Status> {
+    let rows = fs::read_to_string(rt, path).map_err(|_| Status::File)?;
+    listed(rt.alloc(), state, &rows).map_err(|_| Status::Memory)
+}
+
+/// What is printed of the document on standard input and of the rows, and the status.
 fn text_of_input(rt: HostRuntime) -> Result<(String, Status), Status> {
     let limits = Limits::new(MOST_BYTES, 1, Version::Two).ok_or(Status::Limit)?;
     let state = RandomState::new(&rt).map_err(|_| Status::File)?;
-    let with_facts = has_word(&rt).map_err(|_| Status::Usage)?;
+    let words = words(&rt).map_err(|_| Status::Usage)?;
+    let with_facts = words.len() > 1;
     let mut source = ReaderSource::new(rt.stdin());
-    text_of(rt.alloc(), &mut source, &limits, state, with_facts).map_err(|_| Status::Memory)
+    let told = text_of(rt.alloc(), &mut source, &limits, state, with_facts);
+    let (mut text, status) = told.map_err(|_| Status::Memory)?;
+    if let Some(path) = words.get(2) {
+        let forms = forms_in(&rt, state, path)?;
+        text.push_str(&forms).map_err(|_| Status::Memory)?;
+    }
+    Ok((text, status))
 }
 
 fn main(rt: HostRuntime) -> ExitCode {
