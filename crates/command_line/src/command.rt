@@ -1,9 +1,9 @@
 //! The commands that the program has.
 ghost use Rattle.std.specs.Fmt.{decimal};
-ghost use Rattle.std.specs.Prelude.{◌≡◌, IfOk, false};
-ghost use Rattle.clap.specs.Words.{app_of, rule_of, with_rule};
+ghost use Rattle.std.specs.Prelude.{◌≡◌, ◌||◌, IfOk, IsOkAnd, false};
+ghost use Rattle.clap.specs.Words.{app_of, rule_of, with_rule, with_subcommand as app_with_subcommand};
 ghost use Rattle.clap.specs.declared.builder.command.Command.TheViews.{out-Command as fields_of};
-ghost use Rattle.command_line.specs.CommandLine.{number, path, flag, max_facts, max_bytes, with_reading as app_with_reading, with_paths as app_with_paths, with_names as app_with_names, with_flags as app_with_flags, with_progress as app_with_progress, with_limits as app_with_limits, with_conversion as app_with_conversion, with_certificates as app_with_certificates, with_questions as app_with_questions, check_app, classify_app, convert_app, instances_app, explain_app, query_app, session_app, elc_app};
+ghost use Rattle.command_line.specs.CommandLine.{number, path, flag, max_facts, max_bytes, format, with_reading as app_with_reading, with_paths as app_with_paths, with_names as app_with_names, with_flags as app_with_flags, with_progress as app_with_progress, with_limits as app_with_limits, with_conversion as app_with_conversion, with_certificates as app_with_certificates, with_questions as app_with_questions, check_app, classify_app, convert_app, instances_app, explain_app, query_app, session_app, elc_app};
 
 use clap::{Arg, ArgAction, Command, value_parser};
 use program::{MOST_BYTES, MOST_BYTES_TEXT, MOST_FACTS, MOST_FACTS_TEXT};
@@ -74,6 +74,18 @@ const FORMAT_HELP: &str = "The format that the certificate is written in, 1 or 2
 const PROGRESS_HELP: &str = "Tells on standard error what is being done, and how far it is";
 
 const PROFILE_HELP: &str = "The version of the profile that the document is read in, 1 or 2";
+
+/// The command with one subcommand more, if that was made. If not, the command is let go by this one call, where each way out of the
+/// caller would else let each field go.
+fn with_subcommand<'a>(
+    command: Command<'a>,
+    made: Result<Command<'a>, AllocError>,
+) -> Result<Command<'a>, AllocError>
+    ensures app { IfOk result (λ c. IsOkAnd made.entry (λ s. (fields_of s).has_globals ≡ false → app_of c ≡ app_with_subcommand (app_of command.entry) (app_of s).top)) }
+    ensures local { IfOk result (λ c. IsOkAnd made.entry (λ s. (fields_of c).has_globals ≡ ((fields_of command.entry).has_globals || (fields_of s).has_globals))) }
+{
+    command.subcommand(made?)
+}
 
 /// The command with one path or name more.
 fn with_path<'a>(
@@ -159,12 +171,21 @@ fn with_progress<'a>(alloc: Global, command: Command<'a>) -> Result<Command<'a>,
     with_flag(alloc, command, "progress", PROGRESS_HELP)
 }
 
+/// The command with the option of the format.
+fn with_format<'a>(alloc: Global, command: Command<'a>) -> Result<Command<'a>, AllocError>
+    ensures app { IfOk result (λ c. app_of c ≡ with_rule (app_of command.entry) format) }
+    ensures local { (fields_of command.entry).has_globals ≡ false → IfOk result (λ c. (fields_of c).has_globals ≡ false) }
+{
+    command.arg(one_or_two(alloc, "format", FORMAT_HELP))
+}
+
 fn classify_command<'a>(alloc: Global) -> Result<Command<'a>, AllocError>
     ensures app { IfOk result (λ c. app_of c ≡ classify_app) }
     ensures local { IfOk result (λ c. (fields_of c).has_globals ≡ false) }
 {
     let command = Command::new(alloc, "classify").about(CLASSIFY_ABOUT);
-    let command = with_paths(alloc, command)?.arg(one_or_two(alloc, "format", FORMAT_HELP))?;
+    let command = with_paths(alloc, command)?;
+    let command = with_format(alloc, command)?;
     let command = with_progress(alloc, command)?;
     with_limits(alloc, command)
 }
@@ -186,7 +207,8 @@ fn with_conversion<'a>(alloc: Global, command: Command<'a>) -> Result<Command<'a
 {
     let command = with_path(alloc, command, "DOC", DOCUMENT_HELP)?;
     let command = with_path(alloc, command, "CERT", CERTIFICATE_HELP)?;
-    with_path(alloc, command, "OUT", OUTPUT_HELP)?.arg(one_or_two(alloc, "format", FORMAT_HELP))
+    let command = with_path(alloc, command, "OUT", OUTPUT_HELP)?;
+    with_format(alloc, command)
 }
 
 fn convert_command<'a>(alloc: Global) -> Result<Command<'a>, AllocError>
@@ -203,9 +225,9 @@ fn with_certificates<'a>(alloc: Global, command: Command<'a>) -> Result<Command<
     ensures app { IfOk result (λ c. app_of c ≡ app_with_certificates (app_of command.entry)) }
     ensures local { (fields_of command.entry).has_globals ≡ false → IfOk result (λ c. (fields_of c).has_globals ≡ false) }
 {
-    let command = command.subcommand(classify_command(alloc)?)?;
-    let command = command.subcommand(check_command(alloc)?)?;
-    command.subcommand(convert_command(alloc)?)
+    let command = with_subcommand(command, classify_command(alloc))?;
+    let command = with_subcommand(command, check_command(alloc))?;
+    with_subcommand(command, convert_command(alloc))
 }
 
 fn instances_command<'a>(alloc: Global) -> Result<Command<'a>, AllocError>
@@ -291,9 +313,9 @@ fn with_questions<'a>(alloc: Global, command: Command<'a>) -> Result<Command<'a>
     ensures app { IfOk result (λ c. app_of c ≡ app_with_questions (app_of command.entry)) }
     ensures local { (fields_of command.entry).has_globals ≡ false → IfOk result (λ c. (fields_of c).has_globals ≡ false) }
 {
-    let command = command.subcommand(instances_command(alloc)?)?;
-    let command = command.subcommand(explain_command(alloc)?)?;
-    command.subcommand(query_command(alloc)?)
+    let command = with_subcommand(command, instances_command(alloc))?;
+    let command = with_subcommand(command, explain_command(alloc))?;
+    with_subcommand(command, query_command(alloc))
 }
 
 /// The program's command line.
@@ -307,5 +329,5 @@ pub(crate) fn elc_command<'a>(alloc: Global) -> Result<Command<'a>, AllocError>
         .subcommand_required(true);
     let command = with_certificates(alloc, command)?;
     let command = with_questions(alloc, command)?;
-    command.subcommand(session_command(alloc)?)
+    with_subcommand(command, session_command(alloc))
 }
