@@ -4,8 +4,8 @@ ghost use Rattle.std.specs.Prelude.{◌≡◌};
 ghost use Rattle.fs_lexer.specs.declared.token.LexFault.TheVariants.{Memory};
 
 use std::alloc::{AllocError, AllocFailed};
-use std::error::Error;
 use std::fmt;
+use thiserror::Error;
 
 /// The kinds of tokens of the functional-style syntax.
 #[derive(Clone, Copy, Debug, PartialEq, Eq)]
@@ -46,7 +46,7 @@ pub struct Token<'a> {
 
 /// Why a text spells no tokens, with the byte `at` at which reading stopped. All that stands before it spells tokens, the
 /// next token is to begin there, and none does: what the fault says holds of the bytes from there on.
-#[derive(Clone, Copy, Debug, PartialEq, Eq)]
+#[derive(Clone, Copy, Debug, PartialEq, Eq, Error)]
 pub enum LexFault {
     /// The character begins no token and no separator. Quotes, `<` and word characters have faults of their own.
     BadByte { at: usize },
@@ -76,8 +76,6 @@ impl fmt::Display for LexFault {
         }
     }
 }
-
-impl Error for LexFault {}
 
 impl From<AllocError> for LexFault {
     ghost from_gives = { λ _ e. e ≡ Memory };

@@ -4,11 +4,11 @@ ghost use Rattle.std.specs.Prelude.{◌≡◌};
 ghost use Rattle.fs_parser.specs.declared.fault.ParseFault.TheVariants.{Memory};
 
 use std::alloc::{AllocError, AllocFailed};
-use std::error::Error;
 use std::fmt;
+use thiserror::Error;
 
 /// Why tokens are no document, with the first place from the left where they fail.
-#[derive(Clone, Copy, Debug, PartialEq, Eq)]
+#[derive(Clone, Copy, Debug, PartialEq, Eq, Error)]
 pub enum ParseFault {
     /// This token does not fit here.
     Unexpected { at: usize },
@@ -44,8 +44,6 @@ impl fmt::Display for ParseFault {
         }
     }
 }
-
-impl Error for ParseFault {}
 
 impl From<AllocError> for ParseFault {
     ghost from_gives = { λ _ e. e ≡ Memory };

@@ -19,9 +19,11 @@ use crate::tree::Tree;
 use fs_lexer::{Kind, Token, next_token, only_separators};
 use std::alloc::{AllocError, Global};
 use std::marker::Model;
+use thiserror::Error;
 
 /// No tree of a document stands where one was read, or memory was refused: then `tokens` and `forms` tell the fault.
-#[derive(Debug, Clone, Copy, PartialEq, Eq)]
+#[derive(Debug, Clone, Copy, PartialEq, Eq, Error)]
+#[error("no tree of a document, or out of memory")]
 pub struct Stopped;
 
 /// A reader of a document's text that keeps no tree: it gives the trees of `Ontology( .. )` one after another.

@@ -5,15 +5,18 @@ ghost use Rattle.profile.specs.Reading.{AreReadAs, Refuses};
 ghost use Rattle.profile.specs.Intake.{AreTakenBehind};
 ghost use Rattle.std.specs.Prelude.{IfErr, IfOk, OnOk, map};
 
+use crate::fault::LaterLines;
 use crate::ontology_reader::OntologyReader;
 use axioms::{Memory, Ontology};
 use fs_parser::{Document, Tree};
 use shapes::{Fault, Version};
 use std::alloc::Global;
+use std::fmt;
 use std::hash::RandomState;
+use thiserror::Error;
 
 /// Why a document's trees state no ontology.
-#[derive(Debug, Drop)]
+#[derive(Debug, Drop, Error)]
 pub enum Refusal {
     /// All their faults, in the order of the text.
     Faults(Vec<Fault>),
@@ -21,6 +24,28 @@ pub enum Refusal {
     TooManyNames,
     /// Memory was refused.
     Memory,
+}
+
+impl fmt::Display for Refusal {
+    ghost use Rattle.profile.specs.Faults.{of_refusal};
+    ghost use Rattle.profile.specs.Messages.{fault_text};
+    ghost use Rattle.std.specs.Prelude.{Some};
+
+    ghost output = { λ refusal. Some (fault_text (of_refusal refusal)) };
+
+    fn fmt<W: fmt::Write>(&self, f: &mut fmt::Formatter<W>) -> fmt::Result {
+        match self {
+            Refusal::Faults(found) => match found.split_first() {
+                Some((first, later)) => {
+                    let later = LaterLines(later);
+                    write!(f, "{first}{later}")
+                }
+                None => Ok(()),
+            },
+            Refusal::TooManyNames => write!(f, "A2"),
+            Refusal::Memory => write!(f, "out of memory"),
+        }
+    }
 }
 
 pub(crate) fn take_all(reader: &mut OntologyReader, trees: &[Tree<'_>]) -> Result<(), Memory>

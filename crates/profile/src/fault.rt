@@ -6,11 +6,11 @@ use fs_lexer::LexFault;
 use fs_parser::ParseFault;
 use program::Status;
 use shapes::Fault;
-use std::error::Error;
 use std::fmt;
+use thiserror::Error;
 
 /// Why a document is not read as an ontology. Places count the bytes before them.
-#[derive(Debug, Drop)]
+#[derive(Debug, Drop, Error)]
 pub enum DocumentFault {
     /// The bytes are not UTF-8: the length of the longest prefix that is.
     NotUtf8 { at: usize },
@@ -75,11 +75,9 @@ impl fmt::Display for DocumentFault {
     }
 }
 
-impl Error for DocumentFault {}
-
 /// Faults behind the first one: each on a line of its own.
 #[derive(Drop)]
-struct LaterLines<'a>(&'a [Fault]);
+pub(crate) struct LaterLines<'a>(pub(crate) &'a [Fault]);
 
 impl fmt::Display for LaterLines<'_> {
     ghost use Rattle.std.specs.Prelude.{Some, flat_map};

@@ -1,10 +1,10 @@
 //! What is wrong in a document.
 
-use std::error::Error;
 use std::fmt;
+use thiserror::Error;
 
 /// What is wrong in a document, and the byte of the source where it stands.
-#[derive(Debug, Drop)]
+#[derive(Debug, Drop, Error)]
 pub enum Fault {
     /// This keyword is one of OWL 2 and not of the profile.
     RefusedConstruct { at: usize, keyword: String },
@@ -41,5 +41,3 @@ impl fmt::Display for Fault {
         }
     }
 }
-
-impl Error for Fault {}
