@@ -9,18 +9,23 @@ use axioms::Ontology;
 use certificate::{CertFault, CertWriteFault, Format, read_certificate, write_certificate};
 use device::Sink;
 use std::alloc::Global;
+use thiserror::Error;
 
 /// Why a certificate is not converted.
-#[derive(Clone, Copy, Debug, PartialEq, Eq)]
+#[derive(Clone, Copy, Debug, PartialEq, Eq, Error)]
 pub enum ConvertFault {
     /// The text is that of none. The first line that cannot follow those before it begins at that byte; where the last line
     /// is missing it is the number of bytes.
+    #[error("no certificate: byte {at}")]
     BadText { at: usize },
     /// The line of that number, counted from 1, is the first with a premise that is no line before it: it has no text in format 2.
+    #[error("line {line} has a later premise")]
     LaterPremise { line: usize },
     /// The sink failed.
+    #[error("the sink failed")]
     Io,
     /// A growth of memory was refused, or runs have more than [`MOST_ELEMENTS`](crate::MOST_ELEMENTS) elements.
+    #[error("out of memory")]
     Memory,
 }
 

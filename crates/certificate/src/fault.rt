@@ -11,23 +11,28 @@ use axioms::Memory;
 use device::Failed;
 use source_lines::StreamFault;
 use std::alloc::{AllocError, AllocFailed};
+use thiserror::Error;
 
 /// Why there is no certificate of some lines and an interpretation.
-#[derive(Clone, Copy, Debug, PartialEq, Eq)]
+#[derive(Clone, Copy, Debug, PartialEq, Eq, Error)]
 pub enum MakeFault {
     /// They have no text: they name what the ontology does not have, or are not in the order of the text.
+    #[error("these lines and this interpretation have no text")]
     NoText,
     /// A growth of memory was refused.
+    #[error("out of memory")]
     Memory,
 }
 
 /// Why bytes are not read as a certificate.
-#[derive(Clone, Copy, Debug, PartialEq, Eq)]
+#[derive(Clone, Copy, Debug, PartialEq, Eq, Error)]
 pub enum CertFault {
     /// They are the text of none. The first line that cannot follow those before it begins at that byte; where the
     /// last line is missing it is the number of bytes.
+    #[error("no certificate: byte {at}")]
     BadText { at: usize },
     /// A growth of memory was refused, or runs have more than [`MOST_ELEMENTS`](crate::MOST_ELEMENTS) elements.
+    #[error("out of memory")]
     Memory,
 }
 
@@ -40,13 +45,16 @@ impl From<Memory> for CertFault {
 }
 
 /// Why a certificate is not written.
-#[derive(Clone, Copy, Debug, PartialEq, Eq)]
+#[derive(Clone, Copy, Debug, PartialEq, Eq, Error)]
 pub enum CertWriteFault {
     /// The line of that number, counted from 1, is the first with a premise that is no line before it: it has no text in format 2.
+    #[error("line {line} has a later premise")]
     LaterPremise { line: usize },
     /// The sink failed.
+    #[error("the sink failed")]
     Io,
     /// A growth of memory was refused.
+    #[error("out of memory")]
     Memory,
 }
 
@@ -67,14 +75,17 @@ impl From<Memory> for CertWriteFault {
 }
 
 /// Why a certificate is not read from a source.
-#[derive(Clone, Copy, Debug, PartialEq, Eq)]
+#[derive(Clone, Copy, Debug, PartialEq, Eq, Error)]
 pub enum TextFault {
     /// The source gives the text of none. The first line that cannot follow those before it begins at that byte; where the
     /// last line is missing it is the number of bytes.
+    #[error("no certificate: byte {at}")]
     BadText { at: usize },
     /// The source failed.
+    #[error("the source failed")]
     Io,
     /// A growth of memory was refused, or runs have more than [`MOST_ELEMENTS`](crate::MOST_ELEMENTS) elements that were to be written out.
+    #[error("out of memory")]
     Memory,
 }
 
