@@ -14,13 +14,16 @@ use normal_forms::PropId2;
 use std::alloc::Global;
 use std::hash::RandomState;
 use std::marker::Model;
+use thiserror::Error;
 
 /// Why the work stopped.
-#[derive(Clone, Copy, Debug, PartialEq, Eq)]
+#[derive(Clone, Copy, Debug, PartialEq, Eq, Error)]
 pub enum Stop {
     /// A growth of memory was refused.
+    #[error("out of memory")]
     Memory,
     /// There are more facts than may be.
+    #[error("more facts than the limit")]
     Limit,
 }
 
