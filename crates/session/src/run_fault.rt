@@ -4,15 +4,19 @@ ghost use Rattle.std.specs.Prelude.{◌≡◌};
 
 use crate::question_fault::QuestionFault;
 use profile::DocumentFault;
+use thiserror::Error;
 
 /// Why a document is not read and run to its end.
-#[derive(Debug, Drop)]
+#[derive(Debug, Drop, Error)]
 pub enum RunFault {
     /// The document was not read.
+    #[error(transparent)]
     Document(DocumentFault),
     /// The closure has more facts than the limit.
+    #[error("more facts than the limit")]
     Limit,
     /// Memory was refused once the document was read.
+    #[error("out of memory")]
     Memory,
 }
 

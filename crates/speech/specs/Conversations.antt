@@ -164,12 +164,15 @@ status_of Cut = statuses.Usage
 status_of Unread = statuses.File
 status_of Memory = statuses.Memory
 
+abbrev pub fault_line : InputFault → List ℕ
+fault_line Size = codes "no size within the limit of bytes"
+fault_line LineFeed = codes "no line feed behind the bytes"
+fault_line Cut = codes "the input ends in a command"
+fault_line Unread = codes "cannot read the input"
+fault_line Memory = codes "out of memory"
+
 abbrev pub fault_text : InputFault → List ℕ
-fault_text Size = codes "no size within the limit of bytes\n"
-fault_text LineFeed = codes "no line feed behind the bytes\n"
-fault_text Cut = codes "the input ends in a command\n"
-fault_text Unread = codes "cannot read the input\n"
-fault_text Memory = codes "out of memory\n"
+fault_text fault = ended (fault_line fault)
 
 abbrev pub told_of : InputFault → Told
 told_of fault = told (status_of fault) (fault_text fault)

@@ -5,9 +5,11 @@ ghost use Rattle.std.specs.Prelude.{◌≡◌};
 
 use program::Status;
 use source_lines::StreamFault;
+use std::fmt;
+use thiserror::Error;
 
 /// Why what is read is no command with its bytes. Where the next command begins is then not known.
-#[derive(Clone, Copy, Debug, PartialEq, Eq)]
+#[derive(Clone, Copy, Debug, PartialEq, Eq, Error)]
 pub enum InputFault {
     /// A line does not say how many bytes follow it, or they are more than may follow.
     Size,
@@ -33,7 +35,7 @@ impl InputFault {
         }
     }
 
-    /// What is told of it.
+    /// What is told of it: its line, with a line feed.
     pub fn text(self) -> &'static [u8]
         ensures { result.now ≡ fault_text self }
     {
@@ -43,6 +45,23 @@ impl InputFault {
             InputFault::Cut => b"the input ends in a command\n".as_slice(),
             InputFault::Unread => b"cannot read the input\n".as_slice(),
             InputFault::Memory => b"out of memory\n".as_slice(),
+        }
+    }
+}
+
+impl fmt::Display for InputFault {
+    ghost use Rattle.speech.specs.Conversations.{fault_line};
+    ghost use Rattle.std.specs.Prelude.{Some};
+
+    ghost output = { λ fault. Some (fault_line fault) };
+
+    fn fmt<W: fmt::Write>(&self, f: &mut fmt::Formatter<W>) -> fmt::Result {
+        match self {
+            InputFault::Size => write!(f, "no size within the limit of bytes"),
+            InputFault::LineFeed => write!(f, "no line feed behind the bytes"),
+            InputFault::Cut => write!(f, "the input ends in a command"),
+            InputFault::Unread => write!(f, "cannot read the input"),
+            InputFault::Memory => write!(f, "out of memory"),
         }
     }
 }

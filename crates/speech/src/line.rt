@@ -5,13 +5,16 @@ ghost use Rattle.std.specs.Prelude.{◌↔◌, IfErr, IfOk, IsTrue};
 use crate::command::Command;
 use crate::commands::command_of;
 use std::str::from_utf8;
+use thiserror::Error;
 
 /// Why a line is no command.
-#[derive(Clone, Copy, Debug, PartialEq, Eq)]
+#[derive(Clone, Copy, Debug, PartialEq, Eq, Error)]
 pub enum LineFault {
     /// It is no command.
+    #[error("no command")]
     Unknown,
     /// It begins as one that bytes follow, but does not say how many.
+    #[error("no size")]
     Size,
 }
 
