@@ -1,6 +1,7 @@
 //! Tasks, and why words are none.
 
 use program::Limits;
+use thiserror::Error;
 
 /// The files that a task reads or writes.
 #[derive(Clone, Copy, Debug, PartialEq, Eq)]
@@ -85,10 +86,12 @@ pub struct Task<'a> {
 }
 
 /// Why the words are no task.
-#[derive(Debug, Drop)]
+#[derive(Debug, Drop, Error)]
 pub enum LineFault {
     /// The words are refused, or ask for help: what to tell the user.
+    #[error(transparent)]
     Line(clap::Error),
     /// Memory was refused.
+    #[error("out of memory")]
     Memory,
 }
