@@ -3,6 +3,7 @@
 mod asking;
 mod checking;
 mod failing;
+mod fault_texts;
 mod forged;
 mod formats;
 mod hierarchies;

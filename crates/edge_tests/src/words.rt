@@ -501,8 +501,8 @@ fn help_has_examples_that_are_taken(rt: HostRuntime) -> Result<(), Fail> {
 fn told(alloc: Global, line: &str) -> Result<String, Fail> {
     let words: Vec<&str> = line.split(' ').collect(alloc)?;
     match task(alloc, &words) {
-        Err(LineFault::Line(error)) => Ok(format!(in alloc; "{error}")?),
         Err(LineFault::Memory) => Err(Fail::from("no memory")),
+        Err(fault) => Ok(format!(in alloc; "{fault}")?),
         Ok(_) => Err(Fail::from("a task")),
     }
 }
