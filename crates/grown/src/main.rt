@@ -1,18 +1,17 @@
 //! An example of the library: a session that grows. Reads from standard input a document and, behind it, additions, all of them
 //! separated by lines `----`, and prints which additions were refused, how many facts there are at the end, the taxonomy and the
 //! instances. It finds out what follows behind the document and behind each addition; with `at-once` behind the program's name at
-//! the end alone.
+//! the end alone. Other words behind the name are class expressions: it prints the classes above and below each, and its
+//! individuals, too.
 #![tactic(auto)]
 
-use device::{
-    BufferSink, ReadFault, ReaderSource, Sink, SliceSource, WriterSink, read_all, write_all,
-};
-use program::{MOST_BYTES, MOST_FACTS, Status, Version};
-use session::{DocumentFault, Format, Limits, Session, Stop, TextFault};
+use anyhow::Context;
+use device::{BufferSink, ReaderSource, Sink, SliceSource, WriterSink, read_all, write_all};
+use program::{MOST_BYTES, MOST_FACTS, Version};
+use session::{DocumentFault, Format, Limits, Session, lines_of_answers};
 use std::alloc::{AllocError, Global};
+use std::env;
 use std::hash::RandomState;
-use std::process::ExitCode;
-use std::{env, io};
 
 /// The pieces of the text between lines `----`: the document, and then the additions.
 fn pieces_of(alloc: Global, text: &str) -> Result<Vec<String>, AllocError> {
@@ -62,42 +61,44 @@ fn add(
     }
 }
 
-/// Finds out what follows.
-fn run_on(session: &mut Session) -> Result<(), Status> {
-    match session.resume(MOST_FACTS as u32) {
-        Ok(()) => Ok(()),
-        Err(Stop::Limit) => Err(Status::Limit),
-        Err(Stop::Memory) => Err(Status::Memory),
-    }
-}
-
 /// Adds the texts one after the other, finds out what follows, and tells which texts are refused.
 fn grow(
     alloc: Global,
     session: &mut Session,
     additions: &[String],
     at_once: bool,
-) -> Result<String, Status> {
+) -> anyhow::Result<String> {
     let mut told = String::new(alloc);
     for (number, text) in additions.iter().enumerate() {
         if !at_once {
-            run_on(session)?;
+            session.resume(MOST_FACTS as u32)?;
         }
-        add(alloc, session, (number + 1, text), &mut told).map_err(|_| Status::Memory)?;
+        add(alloc, session, (number + 1, text), &mut told)?;
     }
-    run_on(session)?;
+    session.resume(MOST_FACTS as u32)?;
     Ok(told)
 }
 
 /// Writes the taxonomy and then the instances.
-fn write_texts<S: Sink>(alloc: Global, session: &Session, out: &mut S) -> Result<(), Status> {
+fn write_texts<S: Sink>(alloc: Global, session: &Session, out: &mut S) -> anyhow::Result<()> {
     let mut instances = BufferSink::new(alloc);
     let mut certificate = BufferSink::new(alloc);
-    match session.write(out, &mut instances, &mut certificate, Format::Two) {
-        Ok(_) => write_all(out, instances.bytes()).map_err(|_| Status::File),
-        Err(TextFault::Io(1)) => Err(Status::File),
-        Err(_) => Err(Status::Memory),
-    }
+    session.write(out, &mut instances, &mut certificate, Format::Two)?;
+    write_all(out, instances.bytes())?;
+    Ok(())
+}
+
+/// Writes what the session answers about the class expression.
+fn write_answers<S: Sink>(
+    alloc: Global,
+    session: &Session,
+    expression: &str,
+    out: &mut S,
+) -> anyhow::Result<()> {
+    let answers = session.query(expression, MOST_FACTS as u32)?;
+    let lines = lines_of_answers(alloc, &answers)?;
+    write_all(out, &lines)?;
+    Ok(())
 }
 
 /// Lets the session grow, and writes what is there at the end.
@@ -105,21 +106,18 @@ fn write_grown<S: Sink>(
     alloc: Global,
     session: &mut Session,
     additions: &[String],
-    at_once: bool,
+    (at_once, expressions): (bool, &[String]),
     out: &mut S,
-) -> Result<(), Status> {
+) -> anyhow::Result<()> {
     let told = grow(alloc, session, additions, at_once)?;
     let facts = session.facts();
-    let head = format!(in alloc; "{told}facts {facts}\n").map_err(|_| Status::Memory)?;
-    write_all(out, head.as_bytes()).map_err(|_| Status::File)?;
-    write_texts(alloc, session, out)
-}
-
-/// Writes why the document is refused.
-fn write_fault<S: Sink>(alloc: Global, fault: &DocumentFault, out: &mut S) -> Result<(), Status> {
-    let text = format!(in alloc; "{fault}\n").map_err(|_| Status::Memory)?;
-    write_all(out, text.as_bytes()).map_err(|_| Status::File)?;
-    Err(fault.status())
+    let head = format!(in alloc; "{told}facts {facts}\n")?;
+    write_all(out, head.as_bytes())?;
+    write_texts(alloc, session, out)?;
+    for expression in expressions {
+        write_answers(alloc, session, expression, out)?;
+    }
+    Ok(())
 }
 
 /// Writes what is there at the end of the pieces.
@@ -127,51 +125,31 @@ fn write_pieces<S: Sink>(
     alloc: Global,
     state: RandomState,
     pieces: &[String],
-    at_once: bool,
+    asked: (bool, &[String]),
     out: &mut S,
-) -> Result<(), Status> {
-    let (document, additions) = pieces.split_first().ok_or(Status::Refused)?;
-    let limits = Limits::new(MOST_BYTES, MOST_FACTS, Version::Two).ok_or(Status::Limit)?;
+) -> anyhow::Result<()> {
+    let (document, additions) = pieces.split_first().context("no document")?;
+    let limits = Limits::new(MOST_BYTES, MOST_FACTS, Version::Two).context("no limits")?;
     let mut source = SliceSource::new(document.as_bytes());
-    match Session::open(alloc, &mut source, &limits, state) {
-        Ok(mut session) => write_grown(alloc, &mut session, additions, at_once, out),
-        Err(fault) => write_fault(alloc, &fault, out),
+    let mut session = Session::open(alloc, &mut source, &limits, state)?;
+    write_grown(alloc, &mut session, additions, asked, out)
+}
+
+/// What the words ask for: whether what follows is found out at the end alone, and the class expressions.
+fn asked_by(words: &[String]) -> (bool, &[String]) {
+    match words {
+        [_, first, expressions @ ..] if first.as_str() == "at-once" => (true, expressions),
+        [_, expressions @ ..] => (false, expressions),
+        [] => (false, &[]),
     }
 }
 
-/// Whether the word `at-once` stands behind the program's name.
-fn is_at_once(rt: &HostRuntime) -> io::Result<bool> {
-    let words: Vec<String> = env::args(rt)?.collect(rt.alloc())?;
-    Ok(match words.get(1) {
-        Some(word) => word.as_str() == "at-once",
-        None => false,
-    })
-}
-
-/// The status of a source that is not read to its end.
-fn status_of(fault: ReadFault) -> Status {
-    match fault {
-        ReadFault::Memory => Status::Memory,
-        ReadFault::Failed => Status::File,
-        ReadFault::TooLarge => Status::Limit,
-    }
-}
-
-/// Writes what is there at the end of the pieces on standard input.
-fn write_input<S: Sink>(rt: &HostRuntime, out: &mut S) -> Result<(), Status> {
-    let state = RandomState::new(rt).map_err(|_| Status::File)?;
-    let at_once = is_at_once(rt).map_err(|_| Status::Usage)?;
+fn main(rt: HostRuntime) -> anyhow::Result<()> {
+    let state = RandomState::new(&rt)?;
+    let words: Vec<String> = env::args(&rt)?.collect(rt.alloc())?;
     let mut source = ReaderSource::new(rt.stdin());
-    let bytes = read_all(rt.alloc(), &mut source, MOST_BYTES as usize).map_err(status_of)?;
-    let text = str::from_utf8(&bytes).map_err(|_| Status::Refused)?;
-    let pieces = pieces_of(rt.alloc(), text).map_err(|_| Status::Memory)?;
-    write_pieces(rt.alloc(), state, &pieces, at_once, out)
-}
-
-fn main(rt: HostRuntime) -> ExitCode {
+    let bytes = read_all(rt.alloc(), &mut source, MOST_BYTES as usize)?;
+    let pieces = pieces_of(rt.alloc(), str::from_utf8(&bytes)?)?;
     let mut out = WriterSink::new(rt.stdout());
-    match write_input(&rt, &mut out) {
-        Ok(()) => ExitCode::SUCCESS,
-        Err(status) => ExitCode::from(status.code()),
-    }
+    write_pieces(rt.alloc(), state, &pieces, asked_by(&words), &mut out)
 }
