@@ -4,7 +4,7 @@ use program::Limits;
 use thiserror::Error;
 
 /// The files that a task reads or writes.
-#[derive(Clone, Copy, Debug, PartialEq, Eq)]
+#[derive(Clone, Copy, PartialEq, Eq)]
 pub struct Paths<'a> {
     pub document: &'a str,
     pub taxonomy: &'a str,
@@ -13,7 +13,7 @@ pub struct Paths<'a> {
 }
 
 /// Whether a document says that a class is below another, or that an individual is in it.
-#[derive(Clone, Copy, Debug, PartialEq, Eq)]
+#[derive(Clone, Copy, PartialEq, Eq)]
 pub struct Question<'a> {
     pub document: &'a str,
     /// The name of the class or the individual that is asked of.
@@ -36,7 +36,7 @@ pub enum FormatNumber {
 }
 
 /// A certificate that is written again in a format.
-#[derive(Clone, Copy, Debug, PartialEq, Eq)]
+#[derive(Clone, Copy, PartialEq, Eq)]
 pub struct Conversion<'a> {
     pub document: &'a str,
     pub certificate: &'a str,
@@ -46,7 +46,7 @@ pub struct Conversion<'a> {
 }
 
 /// What the program is asked to do.
-#[derive(Clone, Copy, Debug, PartialEq, Eq)]
+#[derive(Clone, Copy, PartialEq, Eq)]
 pub enum Command<'a> {
     /// Classify the document and write the other three files, the certificate in the format.
     Classify {
@@ -76,7 +76,7 @@ pub enum Command<'a> {
 }
 
 /// What the program is asked to do, within which limits, and whether it tells its progress.
-#[derive(Clone, Copy, Debug, PartialEq, Eq)]
+#[derive(Clone, Copy, PartialEq, Eq)]
 pub struct Task<'a> {
     pub command: Command<'a>,
     /// A check and a conversion draw no facts, and have the greatest limit of them.

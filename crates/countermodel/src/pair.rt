@@ -10,7 +10,7 @@ use number_sets::sort_ascending;
 
 /// Two elements, the second of which the property leads to from the first. Pairs are in order of their properties, those of one
 /// property in order of their sources, and those of one source in order of their targets.
-#[derive(Clone, Copy, Debug, PartialEq, Eq, PartialOrd, Ord)]
+#[derive(Clone, Copy, PartialEq, Eq, PartialOrd, Ord)]
 pub(crate) struct Pair {
     pub property: PropId,
     pub source: u32,
@@ -39,7 +39,7 @@ pub(crate) fn comes_before(first: Pair, second: Pair) -> bool
 }
 
 /// The pairs from one on, and before another where there is one, in the order of pairs.
-#[derive(Clone, Copy, Debug, PartialEq, Eq)]
+#[derive(Clone, Copy, PartialEq, Eq)]
 pub(crate) struct PairRange {
     pub from: Pair,
     pub end: Option<Pair>,

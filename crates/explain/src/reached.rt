@@ -6,14 +6,14 @@ use crate::told::Told;
 use number_sets::Found;
 
 /// The last step to a number: the form of that number, from what was reached at the place `from`.
-#[derive(Clone, Copy, Debug, PartialEq, Eq)]
+#[derive(Clone, Copy, PartialEq, Eq)]
 pub(crate) struct Way {
     pub form: u32,
     pub from: u32,
 }
 
 /// The number of a property or individual that was reached, and the last step to it; none where the search began there.
-#[derive(Clone, Copy, Debug, PartialEq, Eq)]
+#[derive(Clone, Copy, PartialEq, Eq)]
 pub(crate) struct Reached {
     pub number: u32,
     pub way: Option<Way>,

@@ -8,7 +8,7 @@ use number_sets::{OpenLists, PackedLists};
 use std::alloc::{AllocError, Global};
 
 /// The number of a form, and that of the property or individual that it leads to.
-#[derive(Clone, Copy, Debug, PartialEq, Eq)]
+#[derive(Clone, Copy, PartialEq, Eq)]
 pub(crate) struct Told {
     pub form: u32,
     pub to: u32,

@@ -7,7 +7,7 @@ ghost use Rattle.std.specs.Prelude.{◌≡◌, ◌≤◌, length};
 pub struct FactId(pub u32);
 
 /// The older facts that give a fact, in the order in which the condition names them: two at most.
-#[derive(Clone, Copy, Debug, PartialEq, Eq)]
+#[derive(Clone, Copy, PartialEq, Eq)]
 pub enum Older {
     None,
     One(FactId),
@@ -16,7 +16,7 @@ pub enum Older {
 
 /// What gave a fact: a condition of the closure, from 1 to 13, older facts, and the place of a form, where the condition
 /// has one. There is one for each fact, so it is kept in 16 bytes.
-#[derive(Clone, Copy, Debug, PartialEq, Eq)]
+#[derive(Clone, Copy, PartialEq, Eq)]
 pub struct Birth {
     condition: u8,
     older_count: u8,

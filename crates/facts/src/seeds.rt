@@ -7,7 +7,7 @@ use crate::contexts::{Fact, class_word, context_word, property_word};
 use std::hash::{BuildHasher, RandomState};
 
 /// The factors of a hash, which are odd.
-#[derive(Clone, Copy, Debug, PartialEq, Eq, Drop)]
+#[derive(Clone, Copy, PartialEq, Eq, Drop)]
 pub(crate) struct Seeds {
     /// Of a class, and of a property.
     pub first: u64,

@@ -42,7 +42,7 @@ pub(crate) enum Slots {
 const _: () = prove!(size_of::<Slots>() == 32);
 
 /// What a search for a fact comes to.
-#[derive(Clone, Copy, Debug, PartialEq, Eq, Drop)]
+#[derive(Clone, Copy, PartialEq, Eq, Drop)]
 pub(crate) enum Found {
     /// The fact, at this place.
     At(u32),

@@ -9,7 +9,7 @@ use std::alloc::AllocError;
 use std::marker::Model;
 
 /// A fact in 16 bytes: three numbers, and which of two kinds each is of. It is seen as the fact.
-#[derive(Debug, Drop)]
+#[derive(Drop)]
 pub struct StoredFact {
     is_edge: bool,
     // whether the class or the property is a partial one

@@ -11,7 +11,7 @@ use std::alloc::{AllocError, Global};
 use std::marker::Model;
 
 /// The name of a prefix, and the IRI that it stands for.
-#[derive(Debug, Drop)]
+#[derive(Drop)]
 pub(crate) struct OwnedPrefix {
     pub(crate) name: String,
     pub(crate) iri: String,
@@ -19,7 +19,7 @@ pub(crate) struct OwnedPrefix {
 
 /// What names are expanded with behind a document: the standard prefixes, and those that the document declares. The source
 /// of the document need not stay.
-#[derive(Debug, Drop)]
+#[derive(Drop)]
 pub struct Prefixes {
     pub(crate) declared: Vec<OwnedPrefix>,
 }

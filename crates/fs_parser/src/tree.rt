@@ -6,7 +6,7 @@ use crate::iri::Iri;
 use crate::prefix::Prefix;
 
 /// A tree, with the byte of the source at which it begins. Its texts are slices of the source.
-#[derive(Debug, Drop)]
+#[derive(Drop)]
 pub enum Tree<'a> {
     /// A full IRI or a short name.
     Name {
@@ -75,7 +75,7 @@ impl Tree<'_> {
 }
 
 /// A document: the prefixes that it declares, in order, and the trees of its ontology, with names expanded.
-#[derive(Debug, Drop)]
+#[derive(Drop)]
 pub struct Document<'a> {
     pub prefixes: Vec<Prefix<'a>>,
     pub trees: Vec<Tree<'a>>,

@@ -6,7 +6,7 @@ use crate::forms::{Class2, Form};
 use axioms::ExprId;
 
 /// Classes of which each two have nothing in common, by forms that stand in a row in a list.
-#[derive(Clone, Copy, Debug)]
+#[derive(Clone, Copy)]
 pub struct DisjointClasses<'a> {
     /// The classes, of which each has forms with those behind it.
     pub classes: &'a [ExprId],

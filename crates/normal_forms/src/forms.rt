@@ -29,7 +29,7 @@ impl PropId2 {
 }
 
 /// The twelve normal forms.
-#[derive(Clone, Copy, Debug, PartialEq, Eq)]
+#[derive(Clone, Copy, PartialEq, Eq)]
 pub enum Form {
     /// A below B.
     N1(Class2, Class2),

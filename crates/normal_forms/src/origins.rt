@@ -6,7 +6,7 @@ use crate::forms::Origin;
 use axioms::ExprId;
 
 /// What gave a form, in 8 bytes: a number, and whether it is that of an expression.
-#[derive(Clone, Copy, Debug)]
+#[derive(Clone, Copy)]
 pub struct StoredOrigin {
     is_expression: bool,
     number: u32,

@@ -6,7 +6,7 @@ use crate::forms::{Class2, Form, PropId2};
 use axioms::{ExprId, IndId, PropId};
 
 /// Which of the twelve normal forms it is.
-#[derive(Clone, Copy, Debug, PartialEq, Eq)]
+#[derive(Clone, Copy, PartialEq, Eq)]
 pub(crate) enum Kind {
     N1,
     N2,
@@ -24,7 +24,7 @@ pub(crate) enum Kind {
 
 /// A normal form in 16 bytes: up to three numbers, in the order in which the form names them, and of each whether it is that of a fresh
 /// name.
-#[derive(Clone, Copy, Debug)]
+#[derive(Clone, Copy)]
 pub(crate) struct StoredForm {
     kind: Kind,
     first_is_partial: bool,

@@ -8,7 +8,7 @@ use std::alloc::{AllocError, Global};
 use std::marker::Model;
 
 /// A value of one number, or one for a stretch of so many.
-#[derive(Clone, Copy, Debug)]
+#[derive(Clone, Copy)]
 pub enum Piece<P, L> {
     One(P),
     Many(L, usize),
@@ -16,7 +16,7 @@ pub enum Piece<P, L> {
 
 /// What a number falls on: a value of its own, or that of a stretch, with how far into the stretch it is and how many numbers the stretch
 /// has.
-#[derive(Clone, Copy, Debug)]
+#[derive(Clone, Copy)]
 pub enum Found<P, L> {
     One(P),
     Within(L, usize, usize),

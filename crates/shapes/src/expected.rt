@@ -49,7 +49,7 @@ impl Expected {
 }
 
 /// The operands of a form.
-#[derive(Clone, Copy, Debug)]
+#[derive(Clone, Copy)]
 pub enum Operands<'a> {
     /// These, in this order.
     Each(&'a [Expected]),

@@ -13,7 +13,7 @@ use crate::form::Form;
 use program::Version;
 
 /// A row of the table: a form, its keyword, the operands that it takes, and the first version that has it.
-#[derive(Clone, Copy, Debug)]
+#[derive(Clone, Copy)]
 pub struct Shape {
     pub form: Form,
     pub keyword: &'static str,

@@ -13,7 +13,7 @@ use fs_parser::Tree;
 use program::Version;
 
 /// An axiom or a declaration, over the trees of its operands.
-#[derive(Clone, Copy, Debug)]
+#[derive(Clone, Copy)]
 pub enum Statement<'t, 'a> {
     /// A class expression, and one above it.
     SubClassOf(&'t Tree<'a>, &'t Tree<'a>),

@@ -3,7 +3,7 @@ ghost use Rattle.speech.specs.Commands.{payload_size, text_paths};
 ghost use Rattle.std.specs.Prelude.{◌≡◌};
 
 /// The paths of the files of the three texts of a classification.
-#[derive(Clone, Copy, Debug, PartialEq, Eq)]
+#[derive(Clone, Copy, PartialEq, Eq)]
 pub struct TextPaths<'l> {
     pub taxonomy: &'l str,
     pub instances: &'l str,
@@ -11,7 +11,7 @@ pub struct TextPaths<'l> {
 }
 
 /// What is asked of a session. Names are IRIs without brackets.
-#[derive(Clone, Copy, Debug, PartialEq, Eq)]
+#[derive(Clone, Copy, PartialEq, Eq)]
 pub enum Command<'l> {
     /// To add the statements of a text of so many bytes.
     Add(u64),
