@@ -1,5 +1,5 @@
 -- The code's lines and rows as those of the definitions.
-use Rattle.std.specs.Prelude.{ℕ, List, map, option_map}
+use Rattle.std.specs.Prelude.{ℕ, List, [], ◌∷◌, map, option_map}
 use Rattle.std.specs.declared.option.Option.{Option}
 use Rattle.certificate.specs.Certificate as certificate
 use Rattle.certificate.specs.declared.line.Subject.{Subject}
@@ -8,6 +8,8 @@ use Rattle.certificate.specs.declared.line.Conclusion.{Conclusion}
 use Rattle.certificate.specs.declared.line.Conclusion.TheVariants.{Sub, Edge, Same}
 use Rattle.certificate.specs.declared.line.Line.{Line}
 use Rattle.certificate.specs.declared.listed.ClassRow.{ClassRow}
+use Rattle.certificate.specs.declared.listed.Targets.{Targets}
+use Rattle.certificate.specs.declared.listed.Targets.TheVariants as targets
 use Rattle.certificate.specs.declared.listed.PairRow.{PairRow}
 use Rattle.certificate.specs.declared.listed.Claim.{Claim}
 use Rattle.certificate.specs.declared.listed.Listed.{Listed}
@@ -34,8 +36,12 @@ lines_of ls = map line_of ls
 abbrev pub class_row_of : ClassRow → ℕ × List ℕ
 class_row_of c = (c.class.0, c.elements.items)
 
+abbrev pub targets_in : Targets → List ℕ
+targets_in (targets.One y) = y ∷ []
+targets_in (targets.Many ys) = ys.items
+
 abbrev pub pair_row_of : PairRow → ℕ × ℕ × List ℕ
-pair_row_of p = (p.property.0, p.source, p.targets.items)
+pair_row_of p = (p.property.0, p.source, targets_in p.targets)
 
 -- .. with the elements that they hold
 abbrev pub held_row : ClassRow → ℕ × List ℕ

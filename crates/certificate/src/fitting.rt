@@ -4,7 +4,7 @@ ghost use Rattle.std.specs.Prelude.{◌≡◌, ◌&&◌, None, map, nat_le, nat_
 ghost use Rattle.std.specs.List.{list_all};
 ghost use Rattle.certificate.specs.HeldReading.{Ascended, read_in};
 ghost use Rattle.certificate.specs.Tests.{fits_property, fits_subject, fits_conclusion, fits_axiom, is_premise, fits_line, is_named, is_after, ascend, are_elements, fits_class, is_pair_after, fits_pairs, fits_claim, fit_classes, fit_pairs, fit_claims, fit_individuals, fits_listed, fits_certificate};
-ghost use Rattle.certificate.specs.View.{subject_of, conclusion_of, line_of, lines_of, class_row_of, pair_row_of, claim_of, listed_of, certificate_from};
+ghost use Rattle.certificate.specs.View.{subject_of, conclusion_of, line_of, lines_of, class_row_of, pair_row_of, targets_in, claim_of, listed_of, certificate_from};
 
 use crate::format::Format;
 use crate::line::{Conclusion, Line, Subject};
@@ -177,11 +177,11 @@ pub(crate) fn fits_read_pairs(
     last: Option<(u32, u32)>,
     row: &PairRow,
 ) -> bool
-    requires { Ascended format domain row.now.targets.items }
-    ensures { result ≡ fits_pairs ontology.now domain last (row.now.property.0, row.now.source, read_in format row.now.targets.items) }
+    requires { Ascended format domain (targets_in row.now.targets) }
+    ensures { result ≡ fits_pairs ontology.now domain last (row.now.property.0, row.now.source, read_in format (targets_in row.now.targets)) }
 {
     may_follow_pairs(ontology, domain, last, row.property, row.source)
-        && are_read_elements(format, domain, &row.targets)
+        && are_read_elements(format, domain, row.targets.as_slice())
 }
 
 /// Whether the row may stand after one of the property and the source `last`.
@@ -189,7 +189,7 @@ pub fn fits_pairs(ontology: &Ontology, domain: u32, last: Option<(u32, u32)>, ro
     ensures { result ≡ fits_pairs ontology.now domain last (pair_row_of row.now) }
 {
     may_follow_pairs(ontology, domain, last, row.property, row.source)
-        && are_elements(domain, &row.targets)
+        && are_elements(domain, row.targets.as_slice())
 }
 
 /// Whether the claim may stand after one of the class `last`.

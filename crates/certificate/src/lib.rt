@@ -27,7 +27,7 @@ pub use format::{Format, FormatOne, FormatTwo, FormatType};
 pub use line::{Conclusion, Line, Rule, Subject};
 pub use line_reader::LineReader;
 pub use line_text::LineText;
-pub use listed::{Claim, ClassRow, Listed, MOST_ELEMENTS, PairRow};
+pub use listed::{Claim, ClassRow, Listed, MOST_ELEMENTS, PairRow, Targets};
 pub use listed_runs::ListedRuns;
 pub use listed_text::ListedText;
 pub use reading::{one_certificate, one_text, read_certificate, texts, there_and_back};

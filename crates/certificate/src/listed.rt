@@ -1,7 +1,10 @@
 //! Listed interpretations.
+ghost use Rattle.certificate.specs.View.{targets_in};
+ghost use Rattle.std.specs.Prelude.{◌≡◌, ◌++◌, ◌∷◌, [], IfOk, OnErr, OnOk};
 
 use axioms::{ExprId, PropId};
-use smallvec::SmallVec;
+use std::alloc::{AllocError, Global};
+use std::slice;
 
 /// How many elements the runs of a listing may be written out to, all together. Where they have more, `Memory` is answered before room
 /// for these is asked for. Format 1 writes each element out, so its rows have no such bound.
@@ -14,13 +17,57 @@ pub struct ClassRow {
     pub elements: Vec<u32>,
 }
 
-/// The elements, ascending, that an element leads to by a property; there is at least one. Most rows have few: these take no memory
-/// of their own.
+/// The elements that an element leads to by a property. In many rows there is one: it takes no memory of its own.
+#[derive(Debug, PartialEq, Eq, Drop)]
+pub enum Targets {
+    One(u32),
+    /// None, or two and more.
+    Many(Vec<u32>),
+}
+
+impl Targets {
+    /// These elements, in order. Fails where memory is refused; one element needs none.
+    pub fn from_slice(alloc: Global, elements: &[u32]) -> Result<Self, AllocError>
+        ensures { IfOk result (λ targets. targets_in targets ≡ elements.now) }
+    {
+        match elements {
+            [element] => Ok(Targets::One(*element)),
+            _ => Ok(Targets::Many(Vec::from_slice(alloc, elements)?)),
+        }
+    }
+
+    /// The elements in order.
+    pub fn as_slice(&self) -> &[u32]
+        ensures { result.now ≡ targets_in self.now }
+    {
+        match self {
+            Targets::One(element) => slice::from_ref(element),
+            Targets::Many(elements) => elements.as_slice(),
+        }
+    }
+
+    /// Adds the element at the end. Fails where memory is refused; then they are what they were.
+    pub fn push(&mut self, alloc: Global, element: u32) -> Result<(), AllocError>
+        ensures ok { OnOk result (targets_in self.new ≡ targets_in self.old ++ element ∷ []) }
+        ensures err { OnErr result (targets_in self.new ≡ targets_in self.old) }
+    {
+        match self {
+            Targets::One(first) => {
+                let elements = vec![in alloc; *first, element]?;
+                *self = Targets::Many(elements);
+            }
+            Targets::Many(elements) => elements.push(element)?,
+        }
+        Ok(())
+    }
+}
+
+/// The elements, ascending, that an element leads to by a property; there is at least one.
 #[derive(Debug, PartialEq, Eq, Drop)]
 pub struct PairRow {
     pub property: PropId,
     pub source: u32,
-    pub targets: SmallVec<u32, 4>,
+    pub targets: Targets,
 }
 
 /// An element that is said to be in the class and in no more classes than it must.

@@ -11,7 +11,7 @@ ghost use Rattle.certificate.specs.Outcome.{Gives};
 use crate::fault::{ReadFault, stopped};
 use crate::fitting::{fits_claim, fits_read_class, fits_read_pairs};
 use crate::format::Format;
-use crate::listed::{Claim, ClassRow, PairRow};
+use crate::listed::{Claim, ClassRow, PairRow, Targets};
 use crate::listed_runs::{numbers_between, push_run};
 use crate::number::{after, small_at};
 use crate::run::Run;
@@ -210,6 +210,7 @@ pub(crate) fn fitting_pairs_at<'a>(
     let (targets, rest) = elements_at(alloc, format, domain, rest)?;
     let rest = after(b"\n", rest).ok_or(stopped(bytes))?;
     let property = PropId(property);
+    let targets = Targets::from_slice(alloc, &targets)?;
     let row = PairRow {
         property,
         source,

@@ -5,7 +5,7 @@ ghost use Rattle.certificate.specs.Held.{held_class, held_in, held_pairs, spread
 ghost use Rattle.certificate.specs.Runs.{numbers_in};
 ghost use Rattle.certificate.specs.View.{class_row_of, listed_of, listing_of, pair_row_of};
 
-use crate::listed::{ClassRow, Listed, MOST_ELEMENTS, PairRow};
+use crate::listed::{ClassRow, Listed, MOST_ELEMENTS, PairRow, Targets};
 use axioms::Memory;
 use smallvec::SmallVec;
 use std::alloc::{AllocError, Global};
@@ -87,8 +87,9 @@ fn expand_class(alloc: Global, left: &mut usize, row: &mut ClassRow) -> Result<(
 fn expand_pairs(alloc: Global, left: &mut usize, row: &mut PairRow) -> Result<(), AllocError>
     ensures { OnOk result (pair_row_of row.new ≡ held_pairs (pair_row_of row.old)) }
 {
-    if holds_runs(&row.targets) {
-        row.targets = numbers_between(alloc, left, &row.targets)?;
+    if holds_runs(row.targets.as_slice()) {
+        let targets = numbers_between(alloc, left, row.targets.as_slice())?;
+        row.targets = Targets::from_slice(alloc, &targets)?;
     }
     Ok(())
 }

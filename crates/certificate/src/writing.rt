@@ -207,7 +207,7 @@ pub(crate) fn push_pairs(out: &mut Vec<u8>, format: Format, row: &PairRow) -> Re
 {
     push_number(out, b"succ p", row.property.0 as u64)?;
     push_number(out, b" ", u64::from(row.source))?;
-    push_elements(out, format, &row.targets)?;
+    push_elements(out, format, row.targets.as_slice())?;
     out.extend_from_slice(b"\n")
 }
 

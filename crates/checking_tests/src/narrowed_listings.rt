@@ -2,8 +2,7 @@
 
 use axioms::{ExprId, Memory, PropId};
 use cert_check::narrow;
-use certificate::{Claim, ClassRow, Listed, PairRow};
-use smallvec::SmallVec;
+use certificate::{Claim, ClassRow, Listed, PairRow, Targets};
 use std::alloc::Global;
 use std::test::Fail;
 
@@ -178,7 +177,7 @@ fn pair_rows(alloc: Global, members: Members) -> Result<Vec<PairRow>, Memory> {
         rows.push(PairRow {
             property: PropId(*property),
             source: *source,
-            targets: SmallVec::from_slice(alloc, targets)?,
+            targets: Targets::from_slice(alloc, targets)?,
         })?;
     }
     Ok(rows)

@@ -1,7 +1,7 @@
 -- The last of rows, which a sink does not have yet.
 use Rattle.std.proofs.Common.{◌≡◌, ℕ, ◌-◌, List, [], ◌∷◌, ◌++◌, length, get_or, map, Some, None, sym, ap, ap₂, ◌∙◌, subst, arith}
 use Rattle.std.proofs.lemmas.List.{length_push, map-append}
-use Rattle.certificate.specs.View.{pair_row_of}
+use Rattle.certificate.specs.View.{pair_row_of, targets_in}
 use Rattle.certificate.specs.declared.listed.PairRow.{PairRow}
 use Rattle.countermodel.specs.LastRows.{AddsToLast}
 use Rattle.countermodel.specs.declared.pair.Pair.{Pair}
@@ -40,13 +40,13 @@ module _ {S : Type 0} (adds : S → S → List PairRow → Type 0) (p : Pair) wh
     as_row (subst (λ (rs : List PairRow). IsOfLast p (map pair_row_of rs) → ⊥) (sym none) (of_none p)) (ap (λ (w : Row). map pair_row_of rows ++ w ∷ []) is),
   )
 
-  pub joins : (sink : S) (last row : PairRow) → IsOf last p → row_at row.property.0 row.source row.targets.items ≡ row_at last.property.0 last.source (last.targets.items ++ p.target ∷ []) → AddsToLast adds p sink (Some last) sink row
+  pub joins : (sink : S) (last row : PairRow) → IsOf last p → row_at row.property.0 row.source (targets_in row.targets) ≡ row_at last.property.0 last.source (targets_in last.targets ++ p.target ∷ []) → AddsToLast adds p sink (Some last) sink row
   joins sink last row same grown = λ start rows added there. (
     rows,
     added,
-    to_last (map pair_row_of rows) last.targets.items
-        (ap (λ (w : Row). map pair_row_of rows ++ w ∷ []) (row_named p last last.targets.items same))
-        (ap (λ (w : Row). map pair_row_of rows ++ w ∷ []) (grown ∙ row_named p last (last.targets.items ++ p.target ∷ []) same)),
+    to_last (map pair_row_of rows) (targets_in last.targets)
+        (ap (λ (w : Row). map pair_row_of rows ++ w ∷ []) (row_named p last (targets_in last.targets) same))
+        (ap (λ (w : Row). map pair_row_of rows ++ w ∷ []) (grown ∙ row_named p last (targets_in last.targets ++ p.target ∷ []) same)),
   )
 
   pub leaves : (old new : S) (last row : PairRow) → (IsOf last p → ⊥) → TakesRow adds last old new → pair_row_of row ≡ row_with p (p.target ∷ []) → AddsToLast adds p old (Some last) new row

@@ -7,8 +7,7 @@ ghost use Rattle.std.specs.Prelude.{◌↔◌, ◌≡◌, ◌∷◌, [], IfOk, I
 use crate::pair::Pair;
 use crate::sink::RowSink;
 use axioms::Memory;
-use certificate::PairRow;
-use smallvec::SmallVec;
+use certificate::{PairRow, Targets};
 use std::alloc::Global;
 
 /// Whether the row is of the pair's property and source.
@@ -19,16 +18,14 @@ fn is_of(row: &PairRow, pair: Pair) -> bool
 }
 
 /// A row of the pair alone.
-fn row_of(alloc: Global, pair: Pair) -> Result<PairRow, Memory>
-    ensures { IfOk result (λ row. pair_row_of row ≡ row_with pair (pair.target ∷ [])) }
+fn row_of(pair: Pair) -> PairRow
+    ensures { pair_row_of result ≡ row_with pair (pair.target ∷ []) }
 {
-    let mut targets = SmallVec::new(alloc);
-    targets.push(pair.target)?;
-    Ok(PairRow {
+    PairRow {
         property: pair.property,
         source: pair.source,
-        targets,
-    })
+        targets: Targets::One(pair.target),
+    }
 }
 
 /// The last row with the pair, where it is of its property and source. Else the sink takes the row, and the last is of the pair alone.
@@ -41,14 +38,14 @@ fn add_pair<S: RowSink<PairRow>>(
     ensures { IfOk result (λ row. AddsToLast S.adds pair rows.old last rows.new row) }
 {
     let Some(mut row) = last else {
-        return row_of(alloc, pair);
+        return Ok(row_of(pair));
     };
     if is_of(&row, pair) {
-        row.targets.push(pair.target)?;
+        row.targets.push(alloc, pair.target)?;
         return Ok(row);
     }
     rows.add(row)?;
-    row_of(alloc, pair)
+    Ok(row_of(pair))
 }
 
 /// Adds the rows of pairs that are in order to those of pairs that come before them, of which the last is not in the sink yet: but the

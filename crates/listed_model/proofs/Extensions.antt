@@ -16,7 +16,7 @@ use Rattle.axioms.specs.WellFormedness.{IsOntology}
 use Rattle.axioms.proofs.Trees.{class_tree, some_tree, and_tree}
 use Rattle.certificate.specs.Certificate.{Listed}
 use Rattle.certificate.specs.Writability.{IsListedOf, AreElements, IsNamedClass}
-use Rattle.certificate.specs.View.{pair_row_of}
+use Rattle.certificate.specs.View.{pair_row_of, targets_in}
 use Rattle.certificate.specs.declared.listed.PairRow.{PairRow}
 use Rattle.interpretation_spec.specs.Interpretation.{IsIn}
 use Rattle.interpretation_spec.proofs.Extensions.{in_intersection, each_of_intersection}
@@ -106,7 +106,7 @@ holds_push xs y x = (
 -- ---- sources
 
 abbrev pub IsSource : List ℕ → ℕ → PairRow → Type 0
-IsSource fillers x row = (row.source ≡ x) × (list_any (holds fillers) row.targets.items ≡ true)
+IsSource fillers x row = (row.source ≡ x) × (list_any (holds fillers) (targets_in row.targets) ≡ true)
 
 pub sources_mean : (rows of_property : List PairRow) (r : ℕ) (fillers : List ℕ) (n x : ℕ) → ArePairRows rows → length of_property ≤ n
     → ((row : PairRow) → Contains of_property row ↔ (Contains rows row × (row.property.0 ≡ r)))
@@ -116,15 +116,15 @@ sources_mean rows of_property r fillers n x given all those = (
       let (c, p) = (those row).0 (Contains-from_slice_get of_property k row g) in
       let (m, h) = slice_get-from_Contains rows row c in
       let found = targets_found rows given.ordered m row h in
-      let (j, y, lj, e, f) = Any-from_list_any (holds fillers) row.targets.items any in
-      let is : targets_of (map pair_row_of rows) r x ≡ row.targets.items = ap₂ (targets_of (map pair_row_of rows)) (sym p) (sym s) ∙ found in
-      (y, ap (λ ts. holds ts y) is ∙ holds_from_Contains row.targets.items y (j, lj, e), f),
+      let (j, y, lj, e, f) = Any-from_list_any (holds fillers) (targets_in row.targets) any in
+      let is : targets_of (map pair_row_of rows) r x ≡ targets_in row.targets = ap₂ (targets_of (map pair_row_of rows)) (sym p) (sym s) ∙ found in
+      (y, ap (λ ts. holds ts y) is ∙ holds_from_Contains (targets_in row.targets) y (j, lj, e), f),
   λ (y, t, f).
       let (m, row, g, p, s, h) = target_row rows r x y t in
       let (k, i) = slice_get-from_Contains of_property row ((those row).1 (Contains-from_slice_get rows m row g, p)) in
       let within = slice_get_within of_property k row i in
-      let (j, lj, e) = Contains_from_holds row.targets.items y h in
-      (k, row, omega arith, i, (s, list_any-from_Any (holds fillers) row.targets.items (j, y, lj, e, f))),
+      let (j, lj, e) = Contains_from_holds (targets_in row.targets) y h in
+      (k, row, omega arith, i, (s, list_any-from_Any (holds fillers) (targets_in row.targets) (j, y, lj, e, f))),
 )
 
 -- ---- extensions

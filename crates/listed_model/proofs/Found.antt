@@ -9,7 +9,7 @@ use Rattle.std.proofs.lemmas.List.{length-take-le, length-drop, get_or-take, get
 use Rattle.certificate.specs.declared.listed.ClassRow.{ClassRow}
 use Rattle.certificate.specs.declared.listed.PairRow.{PairRow}
 use Rattle.certificate.specs.Writability.{IsPairBefore}
-use Rattle.certificate.specs.View.{pair_row_of, class_row_of}
+use Rattle.certificate.specs.View.{pair_row_of, class_row_of, targets_in}
 use Rattle.listed_model.specs.Listing.{elements_of, targets_of}
 use Rattle.listed_model.specs.Members.{holds}
 use Rattle.listed_model.specs.Rows.{is_before}
@@ -101,17 +101,17 @@ pair_missing rows r x place h at not_here k d l e f =
           true≢false (sym t ∙ at.1 place d (omega arith) (omega arith)))
     ]
 
-pub targets_found : (rows : List PairRow) → PairsRise rows → (k : ℕ) (row : PairRow) → slice_get rows k ≡ Some row → targets_of (map pair_row_of rows) row.property.0 row.source ≡ row.targets.items
+pub targets_found : (rows : List PairRow) → PairsRise rows → (k : ℕ) (row : PairRow) → slice_get rows k ≡ Some row → targets_of (map pair_row_of rows) row.property.0 row.source ≡ targets_in row.targets
 targets_found [] h k row g = absurd (none-some row g)
 targets_found (r ∷ rs) h zero row g =
     let e : r ≡ row = same_Some r row g in
-    rw (eq-eqb r.property.0 row.property.0 (ap (λ (w : PairRow). w.property.0) e), eq-eqb r.source row.source (ap (λ (w : PairRow). w.source) e)) (ap (λ (w : PairRow). w.targets.items) e)
+    rw (eq-eqb r.property.0 row.property.0 (ap (λ (w : PairRow). w.property.0) e), eq-eqb r.source row.source (ap (λ (w : PairRow). w.source) e)) (ap (λ (w : PairRow). targets_in w.targets) e)
 targets_found (r ∷ rs) h (suc k) row g =
     let R : PairRow → PairRow → Type 0 = λ p q. IsPairBefore (pair_row_of p) (pair_row_of q) in
     let rest = targets_found rs (AllPairs-tail R r rs h) k row g in
     go (later R r rs h k row g) rest
   where
-    go : IsPairBefore (pair_row_of r) (pair_row_of row) → targets_of (map pair_row_of rs) row.property.0 row.source ≡ row.targets.items → targets_of (map pair_row_of (r ∷ rs)) row.property.0 row.source ≡ row.targets.items
+    go : IsPairBefore (pair_row_of r) (pair_row_of row) → targets_of (map pair_row_of rs) row.property.0 row.source ≡ targets_in row.targets → targets_of (map pair_row_of (r ∷ rs)) row.property.0 row.source ≡ targets_in row.targets
     go (inl l) rest = rw (ne_eqb r.property.0 row.property.0 (λ e. omega arith)) rest
     go (inr s) rest = let l = s.1 in rw (eq-eqb r.property.0 row.property.0 s.0, ne_eqb r.source row.source (λ e. omega arith)) rest
 
@@ -125,7 +125,7 @@ targets_none (p ∷ ps) r x h =
     ]
 
 -- a target stands in a row of the property and the source
-pub target_row : (rows : List PairRow) (r x y : ℕ) → holds (targets_of (map pair_row_of rows) r x) y ≡ true → (k : ℕ) × (row : PairRow) × (slice_get rows k ≡ Some row) × (row.property.0 ≡ r) × (row.source ≡ x) × (holds row.targets.items y ≡ true)
+pub target_row : (rows : List PairRow) (r x y : ℕ) → holds (targets_of (map pair_row_of rows) r x) y ≡ true → (k : ℕ) × (row : PairRow) × (slice_get rows k ≡ Some row) × (row.property.0 ≡ r) × (row.source ≡ x) × (holds (targets_in row.targets) y ≡ true)
 target_row [] r x y t = absurd (true≢false (sym t))
 target_row (p ∷ ps) r x y t =
     elim (cases_eq p.property.0 r) [
@@ -136,7 +136,7 @@ target_row (p ∷ ps) r x y t =
       ]
     ]
   where
-    next : ((k : ℕ) × (row : PairRow) × (slice_get ps k ≡ Some row) × (row.property.0 ≡ r) × (row.source ≡ x) × (holds row.targets.items y ≡ true)) → (k : ℕ) × (row : PairRow) × (slice_get (p ∷ ps) k ≡ Some row) × (row.property.0 ≡ r) × (row.source ≡ x) × (holds row.targets.items y ≡ true)
+    next : ((k : ℕ) × (row : PairRow) × (slice_get ps k ≡ Some row) × (row.property.0 ≡ r) × (row.source ≡ x) × (holds (targets_in row.targets) y ≡ true)) → (k : ℕ) × (row : PairRow) × (slice_get (p ∷ ps) k ≡ Some row) × (row.property.0 ≡ r) × (row.source ≡ x) × (holds (targets_in row.targets) y ≡ true)
     next s = (suc s.0, s.1, s.2, s.3, s.4, s.5)
 
 -- ---- the rows of a property

@@ -8,7 +8,7 @@ use Rattle.std.proofs.lemmas.List.Elements.{Contains-get_or}
 use Rattle.std.proofs.lemmas.List.Folds.{list_any-append}
 use Rattle.std.proofs.lemmas.Option.{same_Some, slice_get_within, get_or_from_slice_get}
 use Rattle.lemmas.proofs.Places.{slice_get_there}
-use Rattle.certificate.specs.View.{pair_row_of}
+use Rattle.certificate.specs.View.{pair_row_of, targets_in}
 use Rattle.certificate.specs.declared.listed.PairRow.{PairRow}
 use Rattle.number_sets.specs.Pieces.{list_at}
 use Rattle.number_sets.specs.Transposition.{copies, holders, holders_below}
@@ -78,10 +78,10 @@ below_rise (suc n) lists y =
     (λ v h. ((below_mean n lists y v).0 h).0)
     (λ v h. ((copies_mean n y (list_at lists n) v).0 h).0))
 
-turned_places : (rows : List PairRow) (lists : List (List ℕ)) (y : ℕ) (places : List ℕ) → lists ≡ map (λ (row : PairRow). row.targets.items) rows → places ≡ holders lists y
-    → (k : ℕ) → (holds places k ≡ true) ↔ ((row : PairRow) × (slice_get rows k ≡ Some row) × (holds row.targets.items y ≡ true))
+turned_places : (rows : List PairRow) (lists : List (List ℕ)) (y : ℕ) (places : List ℕ) → lists ≡ map (λ (row : PairRow). targets_in row.targets) rows → places ≡ holders lists y
+    → (k : ℕ) → (holds places k ≡ true) ↔ ((row : PairRow) × (slice_get rows k ≡ Some row) × (holds (targets_in row.targets) y ≡ true))
 turned_places rows lists y places are is k =
-    let T : PairRow → List ℕ = λ row. row.targets.items in
+    let T : PairRow → List ℕ = λ row. targets_in row.targets in
     let mean = below_mean (length lists) lists y k in
     let long : length lists ≡ length rows = ap length are ∙ length-map rows T in (
       λ h.
@@ -96,12 +96,12 @@ turned_places rows lists y places are is k =
     there : (rows : List PairRow) (k : ℕ) → k < length rows → (row : PairRow) × (slice_get rows k ≡ Some row)
     there rows k l = slice_get_there rows k l
 
-    at_row : (rows : List PairRow) (lists : List (List ℕ)) (k : ℕ) (row : PairRow) → lists ≡ map (λ (row : PairRow). row.targets.items) rows → slice_get rows k ≡ Some row → list_at lists k ≡ row.targets.items
+    at_row : (rows : List PairRow) (lists : List (List ℕ)) (k : ℕ) (row : PairRow) → lists ≡ map (λ (row : PairRow). targets_in row.targets) rows → slice_get rows k ≡ Some row → list_at lists k ≡ targets_in row.targets
     at_row rows lists k row are g =
-        ap (λ ls. list_at ls k) are ∙ get_or-map (λ (row : PairRow). row.targets.items) rows k row [] (slice_get_within rows k row g) ∙ ap (λ (w : PairRow). w.targets.items) (get_or_from_slice_get rows k row row g)
+        ap (λ ls. list_at ls k) are ∙ get_or-map (λ (row : PairRow). targets_in row.targets) rows k row [] (slice_get_within rows k row g) ∙ ap (λ (w : PairRow). targets_in w.targets) (get_or_from_slice_get rows k row row g)
 
 -- the rows' targets turned around
-pub turned_rows : (rows : List PairRow) (lists : List (List ℕ)) (y : ℕ) (places : List ℕ) → lists ≡ map (λ (row : PairRow). row.targets.items) rows → places ≡ holders lists y → IsHolders rows y places
+pub turned_rows : (rows : List PairRow) (lists : List (List ℕ)) (y : ℕ) (places : List ℕ) → lists ≡ map (λ (row : PairRow). targets_in row.targets) rows → places ≡ holders lists y → IsHolders rows y places
 turned_rows rows lists y places are is = record {
   ascending = subst IsNonDecreasing (sym is) (below_rise (length lists) lists y);
   those = turned_places rows lists y places are is;
@@ -134,7 +134,7 @@ joined_by rows r a b x y list places given at_a at_b holder between = (
       let p = (range_places rows r a b at_a at_b k row g).1 (low, high) in
       let same : other ≡ row = same_Some other row (sym g' ∙ g) in
       let is = ap₂ (targets_of (map pair_row_of rows)) (sym p) (sym s) ∙ targets_found rows given.ordered k row g in
-      ap (λ ts. holds ts y) is ∙ subst (λ (w : PairRow). holds w.targets.items y ≡ true) same u,
+      ap (λ ts. holds ts y) is ∙ subst (λ (w : PairRow). holds (targets_in w.targets) y ≡ true) same u,
   λ t.
       let (k, row, g, p, s, u) = target_row rows r x y t in
       let range = (range_places rows r a b at_a at_b k row g).0 p in

@@ -6,7 +6,7 @@ use Rattle.std.proofs.lemmas.List.{take_more}
 use Rattle.std.proofs.lemmas.List.Elements.{Contains-get_or}
 use Rattle.std.proofs.lemmas.Option.{slice_get_within, same_Some}
 use Rattle.lemmas.proofs.Members.{slice_get-from_Contains, Contains-from_slice_get}
-use Rattle.certificate.specs.View.{pair_row_of}
+use Rattle.certificate.specs.View.{pair_row_of, targets_in}
 use Rattle.certificate.specs.declared.listed.PairRow.{PairRow}
 use Rattle.listed_model.specs.Listing.{targets_of}
 use Rattle.listed_model.specs.Members.{holds}
@@ -36,17 +36,17 @@ holds_next xs i d x l = rw (take_more xs i d l) (holds_push (take i xs) (get_or 
 
 module _ (rows of_property : List PairRow) (r : ℕ) (given : ArePairRows rows) (those : (row : PairRow) → Contains of_property row ↔ (Contains rows row × (row.property.0 ≡ r))) where
   -- a row of the property says which targets its source has
-  pub row_targets : (k : ℕ) (row : PairRow) → slice_get of_property k ≡ Some row → targets_of (map pair_row_of rows) r row.source ≡ row.targets.items
+  pub row_targets : (k : ℕ) (row : PairRow) → slice_get of_property k ≡ Some row → targets_of (map pair_row_of rows) r row.source ≡ targets_in row.targets
   row_targets k row g =
       let (c, p) = (those row).0 (Contains-from_slice_get of_property k row g) in
       let (m, h) = slice_get-from_Contains rows row c in
       ap (λ s. targets_of (map pair_row_of rows) s row.source) (sym p) ∙ targets_found rows given.ordered m row h
 
-  pub row_pair : (k : ℕ) (row : PairRow) → slice_get of_property k ≡ Some row → (y : ℕ) → holds row.targets.items y ≡ true → holds (targets_of (map pair_row_of rows) r row.source) y ≡ true
+  pub row_pair : (k : ℕ) (row : PairRow) → slice_get of_property k ≡ Some row → (y : ℕ) → holds (targets_in row.targets) y ≡ true → holds (targets_of (map pair_row_of rows) r row.source) y ≡ true
   row_pair k row g y t = ap (λ ts. holds ts y) (row_targets k row g) ∙ t
 
   -- what rows say holds of each pair
-  pub each_pair : (n : ℕ) → length of_property ≤ n → (Q : ℕ → ℕ → Type 0) → AllBefore (λ (row : PairRow). (y : ℕ) → holds row.targets.items y ≡ true → Q row.source y) of_property n
+  pub each_pair : (n : ℕ) → length of_property ≤ n → (Q : ℕ → ℕ → Type 0) → AllBefore (λ (row : PairRow). (y : ℕ) → holds (targets_in row.targets) y ≡ true → Q row.source y) of_property n
       → (x y : ℕ) → holds (targets_of (map pair_row_of rows) r x) y ≡ true → Q x y
   each_pair n all Q h x y t =
       let (m, row, g, p, s, u) = target_row rows r x y t in
@@ -55,12 +55,12 @@ module _ (rows of_property : List PairRow) (r : ℕ) (given : ArePairRows rows) 
       subst (λ (z : ℕ). Q z y) s (h k row (omega arith) i y u)
 
   -- a row of the property has a target
-  pub row_some : (k : ℕ) (row : PairRow) → slice_get of_property k ≡ Some row → (y : ℕ) × (holds row.targets.items y ≡ true)
+  pub row_some : (k : ℕ) (row : PairRow) → slice_get of_property k ≡ Some row → (y : ℕ) × (holds (targets_in row.targets) y ≡ true)
   row_some k row g =
       let (c, p) = (those row).0 (Contains-from_slice_get of_property k row g) in
       let (m, l, e) = c in
-      let some : 0 < length row.targets.items = subst (λ (w : PairRow). 0 < length w.targets.items) e (given.some m row l) in
-      (get_or row.targets.items 0 0, holds_from_Contains row.targets.items (get_or row.targets.items 0 0) (Contains-get_or row.targets.items 0 0 some))
+      let some : 0 < length (targets_in row.targets) = subst (λ (w : PairRow). 0 < length (targets_in w.targets)) e (given.some m row l) in
+      (get_or (targets_in row.targets) 0 0, holds_from_Contains (targets_in row.targets) (get_or (targets_in row.targets) 0 0) (Contains-get_or (targets_in row.targets) 0 0 some))
 
 -- a path that is one property longer
 pub path_push : (rows : List (ℕ × ℕ × List ℕ)) (rs : List ℕ) (r x y : ℕ) → HasListedPath rows (rs ++ r ∷ []) x y ↔ ((z : ℕ) × HasListedPath rows rs x z × (holds (targets_of rows r z) y ≡ true))

@@ -5,7 +5,7 @@ use Rattle.std.specs.List.Sorted.{IsNonDecreasing, IsStrictlyIncreasing}
 use Rattle.certificate.specs.declared.listed.ClassRow.{ClassRow}
 use Rattle.certificate.specs.declared.listed.PairRow.{PairRow}
 use Rattle.certificate.specs.Writability.{IsPairBefore}
-use Rattle.certificate.specs.View.{pair_row_of}
+use Rattle.certificate.specs.View.{pair_row_of, targets_in}
 use Rattle.number_sets.specs.Pieces.{list_at}
 use Rattle.listed_model.specs.Listing.{targets_of}
 use Rattle.listed_model.specs.Members.{holds}
@@ -17,8 +17,8 @@ is_before r x row = nat_lt row.property.0 r || (row.property.0 == r && nat_lt ro
 -- ascending by property and then by source, and so are the targets of each, which are some
 pub record ArePairRows (rows : List PairRow) : Type 0 where
   pub ordered : AllPairs (λ p q. IsPairBefore (pair_row_of p) (pair_row_of q)) rows
-  pub targets : All (λ row. IsStrictlyIncreasing row.targets.items) rows
-  pub some : All (λ row. 0 < length row.targets.items) rows
+  pub targets : All (λ row. IsStrictlyIncreasing (targets_in row.targets)) rows
+  pub some : All (λ row. 0 < length (targets_in row.targets)) rows
 
 -- ascending by class, and so are the elements of each
 pub record AreClassRows (rows : List ClassRow) : Type 0 where
@@ -57,7 +57,7 @@ ClosedAt rows r x = (y : ℕ) → holds (targets_of rows r x) y ≡ true → Lea
 -- the places of the rows that have y among their targets, ascending
 pub record IsHolders (rows : List PairRow) (y : ℕ) (places : List ℕ) : Type 0 where
   pub ascending : IsNonDecreasing places
-  pub those : (k : ℕ) → (holds places k ≡ true) ↔ ((row : PairRow) × (slice_get rows k ≡ Some row) × (holds row.targets.items y ≡ true))
+  pub those : (k : ℕ) → (holds places k ≡ true) ↔ ((row : PairRow) × (slice_get rows k ≡ Some row) × (holds (targets_in row.targets) y ≡ true))
 
 -- the list of each element of the domain has the places of the rows that have it among their targets, ascending
 abbrev pub AreHolders : List PairRow → ℕ → List (List ℕ) → Type 0

@@ -88,7 +88,7 @@ pub(crate) fn is_chain_within(
         → holds (targets_of (map pair_row_of rows.now) above.0 x) y ≡ true)) }
 {
     for row in rows_of(rows, first) {
-        let ends = ends_of(alloc, rows, seen, rest, &row.targets)?;
+        let ends = ends_of(alloc, rows, seen, rest, row.targets.as_slice())?;
         if !are_within(&ends, targets_at(rows, above, row.source)) {
             return Ok(false);
         }

@@ -18,7 +18,7 @@ pub(crate) fn are_pairs_within(rows: &[PairRow], property: PropId, above: PropId
     ensures { IsTrue result ↔ LiesWithin (map pair_row_of rows.now) property.0 above.0 }
 {
     for row in rows_of(rows, property) {
-        if !are_within(&row.targets, targets_at(rows, above, row.source)) {
+        if !are_within(row.targets.as_slice(), targets_at(rows, above, row.source)) {
             return false;
         }
     }

@@ -1,5 +1,5 @@
 //! The elements that a property joins to others.
-ghost use Rattle.certificate.specs.View.{pair_row_of};
+ghost use Rattle.certificate.specs.View.{pair_row_of, targets_in};
 ghost use Rattle.certificate.specs.declared.listed.PairRow.{PairRow as PairRow2};
 ghost use Rattle.listed_model.specs.Members.{holds};
 ghost use Rattle.listed_model.specs.Rows.{AreHolders, ArePairRows, IsHolders, IsSourceAmong, Joined};
@@ -15,11 +15,11 @@ use number_sets::{PackedLists, turned};
 use std::alloc::Global;
 
 fn targets_of_each(alloc: Global, rows: &[PairRow]) -> Result<PackedLists, Memory>
-    ensures { IfOk result (λ lists. lists ≡ map (λ (row : PairRow2). row.targets.items) rows.now) }
+    ensures { IfOk result (λ lists. lists ≡ map (λ (row : PairRow2). targets_in row.targets) rows.now) }
 {
     let mut lists = PackedLists::new(alloc);
     for row in rows {
-        lists.push_list(&row.targets)?;
+        lists.push_list(row.targets.as_slice())?;
     }
     Ok(lists)
 }
@@ -88,7 +88,7 @@ fn by_rows(
 {
     let mut sources = Vec::new(alloc);
     for row in rows_of(rows, property) {
-        if have_common(&row.targets, fillers) {
+        if have_common(row.targets.as_slice(), fillers) {
             sources.push(row.source)?;
         }
     }

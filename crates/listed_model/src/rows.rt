@@ -69,7 +69,7 @@ pub(crate) fn targets_at(rows: &[PairRow], property: PropId, source: u32) -> &[u
     }
     let row = &rows[place];
     if row.property == property && row.source == source {
-        &row.targets
+        row.targets.as_slice()
     } else {
         &[]
     }

@@ -100,7 +100,7 @@ fn places_by_size(alloc: Global, rows: &[PairRow]) -> Result<Vec<usize>, Memory>
     let mut places = Vec::new(alloc);
     let mut counted = Vec::new(alloc);
     for (place, row) in rows.iter().enumerate() {
-        counted.push((row.targets.len(), place))?;
+        counted.push((row.targets.as_slice().len(), place))?;
     }
     counted.sort_unstable();
     for pair in &counted {
@@ -128,8 +128,15 @@ pub(crate) fn is_transitive(
     let places = places_by_size(alloc, items)?;
     for place in &places {
         let row = &items[*place];
-        let ordered = widest_first(alloc, rows, property, &row.targets)?;
-        if !leads_within(rows, property, done, covered, &ordered, &row.targets) {
+        let ordered = widest_first(alloc, rows, property, row.targets.as_slice())?;
+        if !leads_within(
+            rows,
+            property,
+            done,
+            covered,
+            &ordered,
+            row.targets.as_slice(),
+        ) {
             return Ok(false);
         }
         done.put(row.source as usize);

@@ -3,7 +3,7 @@ use Rattle.std.proofs.Common.{◌≡◌, ℕ, suc, ◌*◌, ◌<◌, ◌≤◌, 
 use Rattle.std.specs.List.{flat_map}
 use Rattle.std.proofs.lemmas.Bool.{cases_lt, le-leb, lt-leb}
 use Rattle.certificate.specs.Certificate as certificate
-use Rattle.certificate.specs.View.{class_row_of, pair_row_of, claim_of, listed_of}
+use Rattle.certificate.specs.View.{class_row_of, pair_row_of, claim_of, listed_of, targets_in}
 use Rattle.certificate.specs.declared.listed.ClassRow.{ClassRow}
 use Rattle.certificate.specs.declared.listed.PairRow.{PairRow}
 use Rattle.certificate.specs.declared.listed.Claim.{Claim}
@@ -114,10 +114,10 @@ few_of_classes (row ∷ rows) =
 few_of_pairs : (rows : List PairRow) → length (flat_map (λ row. row.1 ∷ suc row.1 ∷ points_in row.2) (map pair_row_of rows)) ≤ 2 * length (pair_elements rows)
 few_of_pairs [] = omega arith
 few_of_pairs (row ∷ rows) =
-    let here = few_in row.targets.items in
+    let here = few_in (targets_in row.targets) in
     let rest = few_of_pairs rows in
-    let points = length-append (points_in row.targets.items) (flat_map (λ row. row.1 ∷ suc row.1 ∷ points_in row.2) (map pair_row_of rows)) in
-    let elements = length-append row.targets.items (pair_elements rows) in
+    let points = length-append (points_in (targets_in row.targets)) (flat_map (λ row. row.1 ∷ suc row.1 ∷ points_in row.2) (map pair_row_of rows)) in
+    let elements = length-append (targets_in row.targets) (pair_elements rows) in
     omega arith
 
 few_of_claims : (claims : List Claim) → length (single_points (map (λ claim. claim.1) (map claim_of claims))) ≤ 2 * length (claim_elements claims)

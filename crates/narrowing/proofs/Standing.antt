@@ -4,7 +4,7 @@ use Rattle.std.specs.List.{flat_map}
 use Rattle.std.proofs.lemmas.List.Elements.{Contains-append_left, Contains-append_right, Contains-append_cases}
 use Rattle.lemmas.proofs.Mapped.{Contains-map, slice_get_map_from}
 use Rattle.lemmas.proofs.Members.{Contains-none, Contains-first, Contains-later, Contains-cons_cases, Contains-from_slice_get, slice_get-from_Contains}
-use Rattle.certificate.specs.View.{class_row_of, pair_row_of, claim_of, listed_of}
+use Rattle.certificate.specs.View.{class_row_of, pair_row_of, claim_of, listed_of, targets_in}
 use Rattle.certificate.specs.declared.listed.ClassRow.{ClassRow}
 use Rattle.certificate.specs.declared.listed.PairRow.{PairRow}
 use Rattle.certificate.specs.declared.listed.Claim.{Claim}
@@ -46,9 +46,9 @@ module _ (l : Listed) (x : ℕ) where
 
   from_pairs : Contains (pair_elements l.pairs.items) x → StandsIn (listed_of l) x
   from_pairs c =
-      let r = Contains-from_flat_map (λ (row : PairRow). row.source ∷ row.targets.items) l.pairs.items x c in
+      let r = Contains-from_flat_map (λ (row : PairRow). row.source ∷ targets_in row.targets) l.pairs.items x c in
       let there = Contains-map pair_row_of l.pairs.items r.0 r.1 in
-      elim (Contains-cons_cases r.0.source x r.0.targets.items r.2) [
+      elim (Contains-cons_cases r.0.source x (targets_in r.0.targets) r.2) [
         | inl e ↦ as_source (pair_row_of r.0) there e
         | inr h ↦ as_target (pair_row_of r.0) there h
       ]
@@ -90,7 +90,7 @@ module _ (l : Listed) (x : ℕ) where
   pair_stands : (row : ℕ × ℕ × List ℕ) → Contains (map pair_row_of l.pairs.items) row → Contains (row.1 ∷ row.2) x → Contains (elements_of_lines l) x
   pair_stands row c d =
       let r = Contains-from_map pair_row_of l.pairs.items row c in
-      pairs_among (Contains-flat_map (λ (row : PairRow). row.source ∷ row.targets.items) l.pairs.items r.0 x r.1 (subst (λ (w : ℕ × ℕ × List ℕ). Contains (w.1 ∷ w.2) x) (sym r.2) d))
+      pairs_among (Contains-flat_map (λ (row : PairRow). row.source ∷ targets_in row.targets) l.pairs.items r.0 x r.1 (subst (λ (w : ℕ × ℕ × List ℕ). Contains (w.1 ∷ w.2) x) (sym r.2) d))
 
   pub individual_stands : Contains l.individuals.items x → Contains (elements_of_lines l) x
   individual_stands c =

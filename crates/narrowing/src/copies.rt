@@ -3,7 +3,7 @@ ghost use Rattle.certificate.specs.View.{class_row_of, listed_of, pair_row_of};
 ghost use Rattle.std.specs.Prelude.{◌≡◌, IfOk, map};
 
 use axioms::Memory;
-use certificate::{ClassRow, Listed, PairRow};
+use certificate::{ClassRow, Listed, PairRow, Targets};
 use std::alloc::Global;
 
 fn copy_of_class(row: &ClassRow) -> Result<ClassRow, Memory>
@@ -25,13 +25,13 @@ fn copy_of_classes(alloc: Global, rows: &[ClassRow]) -> Result<Vec<ClassRow>, Me
     Ok(copy)
 }
 
-fn copy_of_pair(row: &PairRow) -> Result<PairRow, Memory>
+fn copy_of_pair(alloc: Global, row: &PairRow) -> Result<PairRow, Memory>
     ensures { IfOk result (λ copy. pair_row_of copy ≡ pair_row_of row.now) }
 {
     Ok(PairRow {
         property: row.property,
         source: row.source,
-        targets: row.targets.clone()?,
+        targets: Targets::from_slice(alloc, row.targets.as_slice())?,
     })
 }
 
@@ -40,7 +40,7 @@ fn copy_of_pairs(alloc: Global, rows: &[PairRow]) -> Result<Vec<PairRow>, Memory
 {
     let mut copy = Vec::new(alloc);
     for row in rows {
-        copy.push(copy_of_pair(row)?)?;
+        copy.push(copy_of_pair(alloc, row)?)?;
     }
     Ok(copy)
 }

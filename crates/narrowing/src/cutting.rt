@@ -52,7 +52,7 @@ fn count_in_class_runs(rows: &[ClassRow]) -> usize {
 fn count_in_pair_runs(rows: &[PairRow]) -> usize {
     let mut count: usize = 0;
     for row in rows {
-        count = count.saturating_add(count_in_runs(&row.targets));
+        count = count.saturating_add(count_in_runs(row.targets.as_slice()));
     }
     count
 }

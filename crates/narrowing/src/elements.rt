@@ -24,7 +24,7 @@ fn add_pair_elements(elements: &mut Vec<u32>, rows: &[PairRow]) -> Result<(), Me
 {
     for row in rows {
         elements.push(row.source)?;
-        elements.extend_from_slice(&row.targets)?;
+        elements.extend_from_slice(row.targets.as_slice())?;
     }
     Ok(())
 }

@@ -1,5 +1,5 @@
 //! Whether each element of a listing stands in a line, seen by marks and without a list of them all.
-ghost use Rattle.certificate.specs.View.{listed_of};
+ghost use Rattle.certificate.specs.View.{listed_of, targets_in};
 ghost use Rattle.narrowing.specs.Gathered.{claim_elements, class_elements, elements_of_lines, pair_elements};
 ghost use Rattle.narrowing.specs.Marked.{marked};
 ghost use Rattle.narrowing.specs.Narrowed.{StandsIn};
@@ -25,7 +25,9 @@ fn count_pair_elements(rows: &[PairRow]) -> usize
 {
     let mut count: usize = 0;
     for row in rows {
-        count = count.saturating_add(1).saturating_add(row.targets.len());
+        count = count
+            .saturating_add(1)
+            .saturating_add(row.targets.as_slice().len());
     }
     count
 }
@@ -66,10 +68,10 @@ fn mark_classes(row: &mut Row, classes: &[ClassRow]) -> bool
 }
 
 fn mark_pair(row: &mut Row, pair: &PairRow) -> bool
-    ensures in_range { IsTrue result ↔ All (λ x. x < length row.old) (pair.now.source ∷ pair.now.targets.items) }
-    ensures after { IsTrue result → row.new ≡ marked row.old (pair.now.source ∷ pair.now.targets.items) }
+    ensures in_range { IsTrue result ↔ All (λ x. x < length row.old) (pair.now.source ∷ targets_in pair.now.targets) }
+    ensures after { IsTrue result → row.new ≡ marked row.old (pair.now.source ∷ targets_in pair.now.targets) }
 {
-    row.put(pair.source as usize) && mark_elements(row, &pair.targets)
+    row.put(pair.source as usize) && mark_elements(row, pair.targets.as_slice())
 }
 
 fn mark_pairs(row: &mut Row, pairs: &[PairRow]) -> bool

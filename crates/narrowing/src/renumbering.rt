@@ -1,10 +1,10 @@
 //! Lines with each element renumbered.
-ghost use Rattle.certificate.specs.View.{claim_of, class_row_of, listed_of, pair_row_of};
+ghost use Rattle.certificate.specs.View.{claim_of, class_row_of, listed_of, pair_row_of, targets_in};
 ghost use Rattle.narrowing.specs.Renumbered.{renumbered_by, renumbered_claim, renumbered_class, renumbered_pairs};
 ghost use Rattle.std.specs.Prelude.{◌≡◌, map};
 
 use crate::numbering::Numbering;
-use certificate::{Claim, ClassRow, Listed, PairRow};
+use certificate::{Claim, ClassRow, Listed, PairRow, Targets};
 
 fn renumber_elements<N: Numbering>(numbering: &N, elements: &mut [u32])
     ensures { elements.new ≡ map (N.number numbering.now) elements.old }
@@ -28,11 +28,20 @@ fn renumber_classes<N: Numbering>(numbering: &N, rows: &mut Vec<ClassRow>)
     }
 }
 
+fn renumber_targets<N: Numbering>(numbering: &N, targets: &mut Targets)
+    ensures { targets_in targets.new ≡ map (N.number numbering.now) (targets_in targets.old) }
+{
+    match targets {
+        Targets::One(target) => *target = numbering.number_of(*target),
+        Targets::Many(targets) => renumber_elements(numbering, targets),
+    }
+}
+
 fn renumber_pair<N: Numbering>(numbering: &N, row: &mut PairRow)
     ensures { pair_row_of row.new ≡ renumbered_pairs (N.number numbering.now) (pair_row_of row.old) }
 {
     row.source = numbering.number_of(row.source);
-    renumber_elements(numbering, &mut row.targets);
+    renumber_targets(numbering, &mut row.targets);
 }
 
 fn renumber_pairs<N: Numbering>(numbering: &N, rows: &mut Vec<PairRow>)

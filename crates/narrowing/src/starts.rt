@@ -67,7 +67,7 @@ fn add_pair_points(starts: &mut Vec<u32>, domain: u32, rows: &[PairRow]) -> Resu
 {
     for row in rows {
         add_run(starts, domain, row.source, row.source)?;
-        add_points_in(starts, domain, &row.targets)?;
+        add_points_in(starts, domain, row.targets.as_slice())?;
     }
     Ok(())
 }

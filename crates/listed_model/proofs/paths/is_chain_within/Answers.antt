@@ -1,7 +1,7 @@
 use Rattle.std.proofs.Common.{◌≡◌, ℕ, Some, slice_get, map, sym, ap, ◌∙◌, refl, true, true≢false}
 use Rattle.std.proofs.lemmas.Option.{slice_get-get_or}
 use Rattle.axioms.specs.View.{prop_numbers}
-use Rattle.certificate.specs.View.{pair_row_of}
+use Rattle.certificate.specs.View.{pair_row_of, targets_in}
 use Rattle.certificate.specs.declared.listed.PairRow.{PairRow}
 use Rattle.listed_model.specs.Listing.{targets_of}
 use Rattle.listed_model.specs.Members.{holds}
@@ -17,9 +17,9 @@ returns-then-not-are_within-clause-within c =
     let row = c.row-item.result in
     let g : slice_get items at ≡ Some row = slice_get-get_or items at row c.loop-row-test.true ∙ ap Some (sym c.row-item.is) in (
       λ e. absurd (true≢false (sym e)),
-      λ h. sym c.if-not-are_within.true ∙ c.are_within.ensures ∙ (list_all_means c.targets_at.result.now c.deref-in-loop-row.result.now).1 (λ y t.
-          let (z, s, p) = (c.in_ok-ends.ensures.members y).0 (ap (λ xs. holds xs y) (sym c.deref-in-loop-row.ensures.value) ∙ t) in
-          let q = row_pair rows items c.args.first.0 c.requires c.rows_of-row-items.ensures at row g z (ap (λ xs. holds xs z) (sym c.deref.ensures) ∙ s) in
+      λ h. sym c.if-not-are_within.true ∙ c.are_within.ensures ∙ (list_all_means c.targets_at.result.now c.deref.result.now).1 (λ y t.
+          let (z, s, p) = (c.in_ok-ends.ensures.members y).0 (ap (λ xs. holds xs y) (sym c.deref.ensures.value) ∙ t) in
+          let q = row_pair rows items c.args.first.0 c.requires c.rows_of-row-items.ensures at row g z (ap (λ xs. holds xs z) (sym c.as_slice.ensures) ∙ s) in
           ap (λ ts. holds ts y) c.targets_at.ensures.targets ∙ h row.source y z q p),
     )
 
@@ -30,13 +30,13 @@ loop-row-preserved c =
     let at = c.loop-row.row-index in
     let row = c.row-item.result in
     let g : slice_get items at ≡ Some row = slice_get-get_or items at row c.loop-row-test.true ∙ ap Some (sym c.row-item.is) in
-    let P : PairRow → Type 0 = λ (row : PairRow). (z y : ℕ) → holds row.targets.items z ≡ true → HasListedPath (map pair_row_of rows) (prop_numbers c.args.rest.now) z y → holds (targets_of (map pair_row_of rows) c.args.above.0 row.source) y ≡ true in
+    let P : PairRow → Type 0 = λ (row : PairRow). (z y : ℕ) → holds (targets_in row.targets) z ≡ true → HasListedPath (map pair_row_of rows) (prop_numbers c.args.rest.now) z y → holds (targets_of (map pair_row_of rows) c.args.above.0 row.source) y ≡ true in
     record {
       len = c.ends_of.ensures.len ∙ c.loop-row.invariant.len;
       each = all_before_next P items at row g c.loop-row.invariant.each (λ z y s p.
-          let t = (c.in_ok-ends.ensures.members y).1 (z, ap (λ xs. holds xs z) c.deref.ensures ∙ s, p) in
+          let t = (c.in_ok-ends.ensures.members y).1 (z, ap (λ xs. holds xs z) c.as_slice.ensures ∙ s, p) in
           ap (λ ts. holds ts y) (sym c.targets_at.ensures.targets)
-          ∙ (list_all_means c.targets_at.result.now c.deref-in-loop-row.result.now).0 (sym c.are_within.ensures ∙ c.if-not-are_within.false) y (ap (λ xs. holds xs y) c.deref-in-loop-row.ensures.value ∙ t));
+          ∙ (list_all_means c.targets_at.result.now c.deref.result.now).0 (sym c.are_within.ensures ∙ c.if-not-are_within.false) y (ap (λ xs. holds xs y) c.deref.ensures.value ∙ t));
     }
 
 pub returns-clause-within : goal.returns-clause-within

@@ -1,6 +1,7 @@
 use Rattle.std.proofs.Common.{◌≡◌, Some, slice_get, sym, ap, ◌∙◌, inl, inr, true≢false}
 use Rattle.std.specs.List.{list_any}
 use Rattle.std.proofs.lemmas.Option.{slice_get-get_or}
+use Rattle.certificate.specs.View.{targets_in}
 use Rattle.listed_model.specs.Members.{holds}
 use Rattle.listed_model.proofs.Extensions.{IsSource, some_before_next, some_before_none, holds_push, sources_mean}
 use Rattle.listed_model.proofs.restriction.by_rows.Goals as goal
@@ -21,7 +22,7 @@ loop-row-preserved c = λ x.
     let g : slice_get items at ≡ Some row = slice_get-get_or items at row c.loop-row-test.true ∙ ap Some (sym c.row-item.is) in
     let next = some_before_next (IsSource fillers x) items at row g in
     let old = c.loop-row.invariant x in
-    let said : c.have_common.result ≡ list_any (holds fillers) row.targets.items = c.have_common.ensures ∙ ap (list_any (holds fillers)) c.deref.ensures in
+    let said : c.have_common.result ≡ list_any (holds fillers) (targets_in row.targets) = c.have_common.ensures ∙ ap (list_any (holds fillers)) c.as_slice.ensures in
     elim c.if-have_common.branch [
       | then-have_common+in_ok-push w ↦
           (let is = ap (λ v. v.items) w.sources-is ∙ w.in_ok-push.ensures.items in

@@ -3,7 +3,7 @@ use Rattle.std.specs.List.Sorted.{IsStrictlyIncreasing}
 use Rattle.std.proofs.lemmas.Bool.{eqb-true, eqb-false}
 use Rattle.std.proofs.lemmas.List.{get_or_default}
 use Rattle.std.proofs.lemmas.Option.{slice_get-get_or}
-use Rattle.certificate.specs.View.{pair_row_of}
+use Rattle.certificate.specs.View.{pair_row_of, targets_in}
 use Rattle.certificate.specs.declared.listed.PairRow.{PairRow}
 use Rattle.listed_model.specs.Listing.{targets_of}
 use Rattle.listed_model.proofs.Found.{pair_missing, targets_none, targets_found}
@@ -24,7 +24,7 @@ returns-then-row-source-clause-targets c =
     let row = c.index-rows-place.result in
     let g : slice_get rows place ≡ Some row = slice_get-get_or rows place row c.if-place-rows.false ∙ ap Some (sym c.index-rows-place.is) in
     let r : row.property.0 ≡ c.args.property.0 = eqb-true row.property.0 c.args.property.0 (sym c.eq.ensures ∙ c.if-eq.true) in
-    c.deref.ensures ∙ sym (subst₂ (λ (s x : ℕ). targets_of (map pair_row_of rows) s x ≡ row.targets.items) r c.if-row-source.true (targets_found rows c.requires.ordered place row g))
+    c.as_slice.ensures ∙ sym (subst₂ (λ (s x : ℕ). targets_of (map pair_row_of rows) s x ≡ targets_in row.targets) r c.if-row-source.true (targets_found rows c.requires.ordered place row g))
 
 pub returns-else-eq-clause-targets : goal.returns-else-eq-clause-targets
 returns-else-eq-clause-targets c =
@@ -43,4 +43,4 @@ pub returns-then-row-source-clause-ascending : goal.returns-then-row-source-clau
 returns-then-row-source-clause-ascending c =
     let rows = c.args.rows.now in
     let row = c.index-rows-place.result in
-    subst IsStrictlyIncreasing (sym (c.deref.ensures ∙ ap (λ (p : PairRow). p.targets.items) c.index-rows-place.is)) (c.requires.targets c.rows_before-place.result row c.if-place-rows.false)
+    subst IsStrictlyIncreasing (sym (c.as_slice.ensures ∙ ap (λ (p : PairRow). targets_in p.targets) c.index-rows-place.is)) (c.requires.targets c.rows_before-place.result row c.if-place-rows.false)

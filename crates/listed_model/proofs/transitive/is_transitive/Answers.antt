@@ -4,7 +4,7 @@ use Rattle.std.proofs.lemmas.Bool.{cases_eq}
 use Rattle.std.proofs.lemmas.List.{get_or_default, get_or-set_other, take_all}
 use Rattle.std.proofs.lemmas.Option.{slice_get-get_or, slice_get_within, get_or_from_slice_get}
 use Rattle.lemmas.proofs.Members.{slice_get-from_Contains, Contains-from_slice_get}
-use Rattle.certificate.specs.View.{pair_row_of}
+use Rattle.certificate.specs.View.{pair_row_of, targets_in}
 use Rattle.certificate.specs.declared.listed.PairRow.{PairRow}
 use Rattle.number_sets.specs.Members.{has}
 use Rattle.listed_model.specs.Listing.{targets_of}
@@ -15,10 +15,10 @@ use Rattle.listed_model.proofs.Walks.{holds_next, row_targets}
 use Rattle.listed_model.proofs.transitive.is_transitive.Goals as goal
 
 -- a row of the property has ascending targets
-row_rises : (rows of_property : List PairRow) (r : ℕ) → ArePairRows rows → ((row : PairRow) → Contains of_property row ↔ (Contains rows row × (row.property.0 ≡ r))) → (k : ℕ) (row : PairRow) → slice_get of_property k ≡ Some row → IsStrictlyIncreasing row.targets.items
+row_rises : (rows of_property : List PairRow) (r : ℕ) → ArePairRows rows → ((row : PairRow) → Contains of_property row ↔ (Contains rows row × (row.property.0 ≡ r))) → (k : ℕ) (row : PairRow) → slice_get of_property k ≡ Some row → IsStrictlyIncreasing (targets_in row.targets)
 row_rises rows of_property r given those k row g =
     let ((m, l, e), p) = (those row).0 (Contains-from_slice_get of_property k row g) in
-    subst (λ (w : PairRow). IsStrictlyIncreasing w.targets.items) e (given.targets m row l)
+    subst (λ (w : PairRow). IsStrictlyIncreasing (targets_in w.targets)) e (given.targets m row l)
 
 -- the rows whose targets the property leads from to nothing else are those where it is closed
 closed_row : (rows : List (ℕ × ℕ × List ℕ)) (r source : ℕ) (targets ordered : List ℕ) → targets_of rows r source ≡ targets → ((y : ℕ) → holds ordered y ≡ holds targets y)
@@ -50,7 +50,7 @@ leads_within-requires-clause-targets c =
     let place = get_or c.deref-place-items.result.now c.loop-place.place-index 0 in
     let within = place_below c.in_ok-places.places.items c.deref-place-items.result.now (length items) c.loop-place.place-index c.deref-place-items.ensures.value c.in_ok-places.ensures.within c.loop-place-test.true in
     let g : slice_get items place ≡ Some row = slice_get-get_or items place row within ∙ ap Some (sym c.index-items-place.is) in
-    subst IsStrictlyIncreasing (sym c.deref-in-loop-place-2.ensures) (row_rises rows items c.args.property.0 c.requires c.rows_of-items.ensures place row g)
+    subst IsStrictlyIncreasing (sym c.as_slice-in-loop-place.ensures) (row_rises rows items c.args.property.0 c.requires c.rows_of-items.ensures place row g)
 
 pub returns-then-not-leads_within-clause-transitive : goal.returns-then-not-leads_within-clause-transitive
 returns-then-not-leads_within-clause-transitive c =
@@ -61,10 +61,10 @@ returns-then-not-leads_within-clause-transitive c =
     let place = get_or c.deref-place-items.result.now c.loop-place.place-index 0 in
     let within = place_below c.in_ok-places.places.items c.deref-place-items.result.now (length items) c.loop-place.place-index c.deref-place-items.ensures.value c.in_ok-places.ensures.within c.loop-place-test.true in
     let g : slice_get items place ≡ Some row = slice_get-get_or items place row within ∙ ap Some (sym c.index-items-place.is) in
-    let is = row_targets rows items r c.requires c.rows_of-items.ensures place row g ∙ sym c.deref-in-loop-place-2.ensures in
-    let same : (y : ℕ) → holds c.deref-in-loop-place.result.now y ≡ holds c.deref-in-loop-place-2.result.now y =
-    λ y. ap (λ xs. holds xs y) c.deref-in-loop-place.ensures.value ∙ c.in_ok-ordered.ensures y ∙ ap (λ xs. holds xs y) (c.deref.ensures ∙ sym c.deref-in-loop-place-2.ensures) in
-    let closed = closed_row (map pair_row_of rows) r row.source c.deref-in-loop-place-2.result.now c.deref-in-loop-place.result.now is same in (
+    let is = row_targets rows items r c.requires c.rows_of-items.ensures place row g ∙ sym c.as_slice-in-loop-place.ensures in
+    let same : (y : ℕ) → holds c.deref.result.now y ≡ holds c.as_slice-in-loop-place.result.now y =
+    λ y. ap (λ xs. holds xs y) c.deref.ensures.value ∙ c.in_ok-ordered.ensures y ∙ ap (λ xs. holds xs y) (c.as_slice.ensures ∙ sym c.as_slice-in-loop-place.ensures) in
+    let closed = closed_row (map pair_row_of rows) r row.source c.as_slice-in-loop-place.result.now c.deref.result.now is same in (
       λ e. absurd (true≢false (sym e)),
       λ h. sym c.if-not-leads_within.true ∙ c.leads_within.ensures.within.1 (closed.1 (h row.source)),
     )
@@ -80,10 +80,10 @@ loop-place-preserved c =
     let place = get_or place_items at 0 in
     let within = place_below c.in_ok-places.places.items place_items (length items) at c.deref-place-items.ensures.value c.in_ok-places.ensures.within c.loop-place-test.true in
     let g : slice_get items place ≡ Some row = slice_get-get_or items place row within ∙ ap Some (sym c.index-items-place.is) in
-    let is = row_targets rows items r c.requires c.rows_of-items.ensures place row g ∙ sym c.deref-in-loop-place-2.ensures in
-    let same : (y : ℕ) → holds c.deref-in-loop-place.result.now y ≡ holds c.deref-in-loop-place-2.result.now y =
-    λ y. ap (λ xs. holds xs y) c.deref-in-loop-place.ensures.value ∙ c.in_ok-ordered.ensures y ∙ ap (λ xs. holds xs y) (c.deref.ensures ∙ sym c.deref-in-loop-place-2.ensures) in
-    let closed : ClosedAt (map pair_row_of rows) r row.source = (closed_row (map pair_row_of rows) r row.source c.deref-in-loop-place-2.result.now c.deref-in-loop-place.result.now is same).0 (c.leads_within.ensures.within.0 c.if-not-leads_within.false) in
+    let is = row_targets rows items r c.requires c.rows_of-items.ensures place row g ∙ sym c.as_slice-in-loop-place.ensures in
+    let same : (y : ℕ) → holds c.deref.result.now y ≡ holds c.as_slice-in-loop-place.result.now y =
+    λ y. ap (λ xs. holds xs y) c.deref.ensures.value ∙ c.in_ok-ordered.ensures y ∙ ap (λ xs. holds xs y) (c.as_slice.ensures ∙ sym c.as_slice-in-loop-place.ensures) in
+    let closed : ClosedAt (map pair_row_of rows) r row.source = (closed_row (map pair_row_of rows) r row.source c.as_slice-in-loop-place.result.now c.deref.result.now is same).0 (c.leads_within.ensures.within.0 c.if-not-leads_within.false) in
     let old = c.loop-place.invariant in
     record {
       len = c.leads_within.ensures.len ∙ old.len;

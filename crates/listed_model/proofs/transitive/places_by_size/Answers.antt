@@ -1,4 +1,4 @@
-use Rattle.std.proofs.Common.{ℕ, ◌<◌, List, [], ◌∷◌, ◌++◌, get_or, map, sym, ap, ◌∙◌, arith}
+use Rattle.std.proofs.Common.{ℕ, ◌<◌, List, [], ◌∷◌, ◌++◌, get_or, length, map, sym, ap, ◌∙◌, arith}
 use Rattle.std.specs.List.{range_with_len}
 use Rattle.std.proofs.lemmas.List.{take_all, map_push}
 use Rattle.std.proofs.lemmas.List.Elements.{Contains-get_or}
@@ -12,7 +12,7 @@ pub loop-place-preserved : goal.loop-place-preserved
 loop-place-preserved c =
     let place = c.loop-place.place in
     ap (map (λ (p : ℕ × ℕ). p.1)) c.in_ok-push.ensures.items
-    ∙ map_push (λ (p : ℕ × ℕ). p.1) c.loop-place.counted.items (c.len.result, place)
+    ∙ map_push (λ (p : ℕ × ℕ). p.1) c.loop-place.counted.items (length c.as_slice.result.now, place)
     ∙ ap (λ (xs : List ℕ). xs ++ place ∷ []) c.loop-place.invariant
     ∙ sym (range_push place)
 

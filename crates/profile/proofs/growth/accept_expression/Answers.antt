@@ -15,7 +15,7 @@ class_expression-requires c =
 
 pub returns-in-Ok-class_expression-clause-added : goal.returns-in-Ok-class_expression-clause-added
 returns-in-Ok-class_expression-clause-added c =
-    let none : length c.in-Ok.found.items ≡ 0 = grind (arith, nat_tests, c.is_empty.ensures) in
+    let none : length c.in-Ok.found.items ≡ 0 = grind (arith, nat_tests, c.is_empty.ensures) steps 9000000 in
     expression_added c.args.version c.args.ontology.now (tree_of c.args.tree.now) c.well_formed-2.ensures (sym c.in-Ok.ensures ∙ none_found c.in-Ok.found.items none)
     c.from-builder.result c.class_expression.new.builder c.finish.result c.in-Ok-class_expression.number.0 (c.from-builder.ensures ∙ c.in-Ok-copy.ensures) c.finish.ensures c.in-Ok-class_expression.ensures.read
 
