@@ -1,4 +1,4 @@
-//! Tests of answers: what follows, why and why not, their texts, sessions and questions.
+//! Tests of answers: what follows, why and why not, their texts, sessions, questions and conversations.
 #![tactic(auto)]
 
 #[cfg(test)]
@@ -8,9 +8,13 @@ mod asked;
 #[cfg(test)]
 mod axiom_texts;
 #[cfg(test)]
+mod conversations;
+#[cfg(test)]
 mod derivations;
 #[cfg(test)]
 mod documents;
+#[cfg(test)]
+mod endings;
 #[cfg(test)]
 mod explanations;
 #[cfg(test)]
@@ -35,5 +39,7 @@ mod refused_memory;
 mod session_explanations;
 #[cfg(test)]
 mod sessions;
+#[cfg(test)]
+mod talking;
 #[cfg(test)]
 mod texts;

@@ -1,7 +1,8 @@
 //! Input that is no commands, and how conversations end.
 
-use crate::talking::talked;
+use crate::talking::is_talk;
 use speech::{Ending, InputFault};
+use std::hash::RandomState;
 use std::test::Fail;
 
 /// What is read, what is replied, and how the conversation ends.
@@ -116,24 +117,26 @@ const ROWS: &[Row] = &[
 
 #[test]
 fn input_is_refused(rt: HostRuntime) -> Result<(), Fail> {
+    let state = RandomState::new(&rt)?;
     for row in ROWS {
-        let (replied, ending) = talked(&rt, row.asked.as_bytes())?;
-        assert_eq!(rt;
-            replied.as_slice(),
-            row.replied.as_bytes(),
-            "{:?}",
+        let asked = row.asked.as_bytes();
+        assert!(rt;
+            is_talk(rt.alloc(), state, asked, row.replied, row.ending),
+            "{}",
             row.asked
         );
-        assert_eq!(rt; ending, row.ending, "{:?}", row.asked);
     }
     Ok(())
 }
 
+/// Commands whose bytes are no text.
+const NO_TEXT: &[u8] = b"supers x:\xff\nadd 2\na\xff\nquery 1\n\x80\n";
+
+const TOLD: &str = "no 2 16\nunknown command\nno 3 13\nU1 at byte 1\nno 3 13\nU1 at byte 0\n";
+
 #[test]
 fn bytes_that_are_no_text(rt: HostRuntime) -> Result<(), Fail> {
-    let (replied, ending) = talked(&rt, b"supers x:\xff\nadd 2\na\xff\nquery 1\n\x80\n")?;
-    let told = "no 2 16\nunknown command\nno 3 13\nU1 at byte 1\nno 3 13\nU1 at byte 0\n";
-    assert_eq!(rt; replied.as_slice(), told.as_bytes());
-    assert_eq!(rt; ending, Ending::End);
+    let state = RandomState::new(&rt)?;
+    assert!(rt; is_talk(rt.alloc(), state, NO_TEXT, TOLD, Ending::End));
     Ok(())
 }
