@@ -48,6 +48,18 @@ fn is_accepted<R: AllocGlobal + RandomSource>(
     }
 }
 
+/// Puts the texts into the files.
+pub(super) fn put_all(
+    files: &mut MemoryFiles,
+    taxonomy: &str,
+    instances: &str,
+    certificate: &str,
+) -> Result<(), Memory> {
+    files.put("tax", taxonomy.as_bytes())?;
+    files.put("inst", instances.as_bytes())?;
+    files.put("cert", certificate.as_bytes())
+}
+
 /// Whether a run that checks these texts of the document prints this, and the checker accepts them where the status is 0.
 pub(super) fn is_checked_to<R: AllocGlobal + RandomSource>(
     rt: &R,
@@ -57,12 +69,10 @@ pub(super) fn is_checked_to<R: AllocGlobal + RandomSource>(
     status: u8,
     printed: &str,
 ) -> Result<bool, Fail> {
-    let mut files = files_with(rt.alloc(), document)?;
-    files.put("tax", taxonomy.as_bytes())?;
-    files.put("inst", instances.as_bytes())?;
-    files.put("cert", certificate.as_bytes())?;
-    let run = run_of(rt, CHECK, &mut files)?;
     let is_accepted = is_accepted(rt, document, (taxonomy, instances), certificate)?;
+    let mut files = files_with(rt.alloc(), document)?;
+    put_all(&mut files, taxonomy, instances, certificate)?;
+    let run = run_of(rt, CHECK, &mut files)?;
     Ok(is_run(&run, status, printed, "") && is_accepted == (status == 0))
 }
 

@@ -356,6 +356,19 @@ fn is_run_told_before_the_failure<R: AllocGlobal + RandomSource>(
     )
 }
 
+/// The same of both.
+fn are_told_before_the_failure<R: AllocGlobal + RandomSource>(
+    rt: &R,
+    texts: &Texts,
+    reads: usize,
+    at: usize,
+) -> Result<bool, Fail> {
+    Ok(
+        is_told_before_the_failure(rt, texts, reads, at)?
+            && is_run_told_before_the_failure(rt, texts, reads, at)?,
+    )
+}
+
 /// A part of the certificate of one subclass axiom, what stands in its place so that its line cannot follow those before it, in how
 /// many reads the bytes up to the end of this line are given, and where it begins.
 const BAD_LINES: &[(&str, &str, usize, usize)] = &[
@@ -369,13 +382,9 @@ fn a_bad_certificate_whose_source_fails(rt: HostRuntime) -> Result<(), Fail> {
     for row in BAD_LINES {
         let (old, new, reads, at) = *row;
         let certificate = changed(rt.alloc(), ONE_CERTIFICATE, old, new)?;
-        texts.certificate = certificate.as_bytes().to_vec(rt.alloc())?;
+        texts.certificate = certificate.into_bytes();
         assert!(rt;
-            is_told_before_the_failure(&rt, &texts, reads, at)?,
-            "{new}"
-        );
-        assert!(rt;
-            is_run_told_before_the_failure(&rt, &texts, reads, at)?,
+            are_told_before_the_failure(&rt, &texts, reads, at)?,
             "{new}"
         );
     }
@@ -443,17 +452,27 @@ const CONVERTING: &[(usize, usize, usize)] = &[
     (2, 185, 185),
 ];
 
+/// Whether a conversion whose device at the place fails after so many calls answers so, and so many bytes of the whole text are
+/// written then.
+fn is_conversion<R: AllocGlobal + RandomSource>(
+    rt: &R,
+    whole: &[u8],
+    (place, calls, written): (usize, usize, usize),
+    wanted: Result<(), usize>,
+) -> Result<bool, Fail> {
+    let (answer, taken) = converted(rt, place, calls)?;
+    Ok(answer == wanted && taken.len() == written && whole.starts_with(&taken))
+}
+
 #[test]
 fn a_conversion_whose_devices_fail(rt: HostRuntime) -> Result<(), Fail> {
     let whole = changed_to_two(rt.alloc())?;
-    let (answer, taken) = converted(&rt, NOWHERE, 0)?;
-    assert!(rt; answer == Ok(()) && taken.as_slice() == whole.as_bytes());
+    let whole = whole.as_bytes();
+    assert!(rt; is_conversion(&rt, whole, (NOWHERE, 0, whole.len()), Ok(()))?);
     for row in CONVERTING {
-        let (place, calls, written) = *row;
-        let (answer, taken) = converted(&rt, place, calls)?;
-        assert!(rt; answer == Err(place), "{place} at {calls}");
+        let (place, calls, _written) = *row;
         assert!(rt;
-            taken.len() == written && whole.as_bytes().starts_with(&taken),
+            is_conversion(&rt, whole, *row, Err(place))?,
             "{place} at {calls}"
         );
     }

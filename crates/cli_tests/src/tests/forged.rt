@@ -1,6 +1,6 @@
 //! Documents that are cut and certificates that are forged, by whole programs.
 
-use super::checking::{ONE_CERTIFICATE, changed};
+use super::checking::{ONE_CERTIFICATE, changed, put_all};
 use super::starting::{Ended, is_end, owned, run_to_end, started};
 use super::*;
 
@@ -64,11 +64,20 @@ fn checked<R: AllocGlobal + RandomSource>(
     certificate: &str,
 ) -> Result<Ended, Fail> {
     let mut files = files_with(rt.alloc(), document)?;
-    files.put("tax", taxonomy.as_bytes())?;
-    files.put("inst", NO_INSTANCES.as_bytes())?;
-    files.put("cert", certificate.as_bytes())?;
+    put_all(&mut files, taxonomy, NO_INSTANCES, certificate)?;
     let words = owned(rt.alloc(), CHECK)?;
     Ok(started(rt.alloc(), Ok(words), RandomState::new(rt), &mut files))
+}
+
+/// Whether a program that checks this certificate of the document of one subclass axiom ends so.
+fn is_checked<R: AllocGlobal + RandomSource>(
+    rt: &R,
+    certificate: &str,
+    status: u8,
+    printed: &str,
+) -> Result<bool, Fail> {
+    let end = checked(rt, ONE_DOCUMENT, ONE, certificate)?;
+    Ok(is_end(&end, status, printed, ""))
 }
 
 /// A part of the certificate of one subclass axiom, what stands in its place, and the status and what is printed then.
@@ -132,8 +141,10 @@ fn forged_certificates(rt: HostRuntime) -> Result<(), Fail> {
     for row in FORGED {
         let (old, new, status, printed) = *row;
         let certificate = changed(rt.alloc(), ONE_CERTIFICATE, old, new)?;
-        let end = checked(&rt, ONE_DOCUMENT, ONE, certificate.as_str())?;
-        assert!(rt; is_end(&end, status, printed, ""), "{new}");
+        assert!(rt;
+            is_checked(&rt, certificate.as_str(), status, printed)?,
+            "{new}"
+        );
     }
     Ok(())
 }
@@ -149,8 +160,7 @@ fn is_cut_certificate<R: AllocGlobal + RandomSource>(
     let mut is_printed = true;
     for k in first..last.saturating_add(1) {
         if let Some(cut) = ONE_CERTIFICATE.get(..k) {
-            let end = checked(rt, ONE_DOCUMENT, ONE, cut)?;
-            is_printed = is_printed && is_end(&end, 1, printed, "");
+            is_printed = is_checked(rt, cut, 1, printed)? && is_printed;
         }
     }
     Ok(is_printed)
@@ -201,8 +211,10 @@ fn certificates_forged_twice(rt: HostRuntime) -> Result<(), Fail> {
     for row in FORGED_TWICE {
         let (old, new, printed) = *row;
         let certificate = changed(rt.alloc(), bad_line.as_str(), old, new)?;
-        let end = checked(&rt, ONE_DOCUMENT, ONE, certificate.as_str())?;
-        assert!(rt; is_end(&end, 1, printed, ""), "{printed}");
+        assert!(rt;
+            is_checked(&rt, certificate.as_str(), 1, printed)?,
+            "{printed}"
+        );
     }
     Ok(())
 }
@@ -220,6 +232,17 @@ const CLAIMED: &[(&str, u8, &str)] = &[
     ("claim e2 4294967295", 1, "rejected: C1 at byte 179\n"),
 ];
 
+/// The end of a program that checks that certificate with this claim in it.
+fn claimed<R: AllocGlobal + RandomSource>(
+    rt: &R,
+    taxonomy: &str,
+    claim: &str,
+) -> Result<Ended, Fail> {
+    let old = "claim e2 4294967293";
+    let certificate = changed(rt.alloc(), RESTRICTION_CERTIFICATE, old, claim)?;
+    checked(rt, RESTRICTION, taxonomy, certificate.as_str())
+}
+
 #[test]
 fn claims_in_a_huge_domain(rt: HostRuntime) -> Result<(), Fail> {
     let taxonomy = text_of(
@@ -228,15 +251,23 @@ fn claims_in_a_huge_domain(rt: HostRuntime) -> Result<(), Fail> {
     )?;
     for row in CLAIMED {
         let (claim, status, printed) = *row;
-        let certificate = changed(
-            rt.alloc(),
-            RESTRICTION_CERTIFICATE,
-            "claim e2 4294967293",
-            claim,
-        )?;
-        let end = checked(&rt, RESTRICTION, taxonomy.as_str(), certificate.as_str())?;
+        let end = claimed(&rt, taxonomy.as_str(), claim)?;
         assert!(rt; is_end(&end, status, printed, ""), "{claim}");
     }
+    Ok(())
+}
+
+/// Files of which one holds the document with this axiom.
+fn files_of_axiom(alloc: Global, axiom: &str) -> Result<MemoryFiles, Fail> {
+    let document = format!(in alloc; "Prefix(:=<x:>) Ontology({axiom})")?;
+    Ok(files_with(alloc, document.as_bytes())?)
+}
+
+/// Puts the certificate of these lines, which are given in short, into the files.
+fn put_lines(alloc: Global, files: &mut MemoryFiles, lines: &str) -> Result<(), Fail> {
+    let lines = text_of(alloc, lines)?;
+    let certificate = format!(in alloc; "elcert 1 consistent\n{lines}end\n")?;
+    files.put("cert", certificate.as_bytes())?;
     Ok(())
 }
 
@@ -248,13 +279,10 @@ fn checked_beside<R: AllocGlobal + RandomSource>(
     lines: &str,
 ) -> Result<Ended, Fail> {
     let alloc = rt.alloc();
-    let document = format!(in alloc; "Prefix(:=<x:>) Ontology({axiom})")?;
-    let mut files = files_with(alloc, document.as_bytes())?;
+    let mut files = files_of_axiom(alloc, axiom)?;
     let classify = owned(alloc, CLASSIFY)?;
     started(alloc, Ok(classify), RandomState::new(rt), &mut files);
-    let lines = text_of(alloc, lines)?;
-    let certificate = format!(in alloc; "elcert 1 consistent\n{lines}end\n")?;
-    files.put("cert", certificate.as_bytes())?;
+    put_lines(alloc, &mut files, lines)?;
     let check = owned(alloc, CHECK)?;
     Ok(started(alloc, Ok(check), RandomState::new(rt), &mut files))
 }
@@ -388,8 +416,7 @@ fn is_long_change_told<R: AllocGlobal + RandomSource>(
     change: LongChange,
 ) -> Result<bool, Fail> {
     let certificate = long_certificate(rt.alloc(), change)?;
-    let end = checked(rt, ONE_DOCUMENT, ONE, certificate.as_str())?;
-    Ok(is_end(&end, 1, change.printed, ""))
+    is_checked(rt, certificate.as_str(), 1, change.printed)
 }
 
 /// The certificate with more premises in a line than any rule takes, alone and before a line that cannot follow; with a number of

@@ -18,32 +18,42 @@ fn certificate_in(alloc: Global, format: u8) -> Result<String, Fail> {
     }
 }
 
-/// Lines that classify a document, and the first line of the certificate that they write.
-const CLASSIFYING: &[(&str, &str)] = &[
-    ("elc classify doc tax inst cert", "elcert 2 consistent\n"),
-    (
-        "elc classify doc tax inst cert --format 2",
-        "elcert 2 consistent\n",
-    ),
-    (
-        "elc classify doc tax inst cert --format 1",
-        "elcert 1 consistent\n",
-    ),
+const CLASSIFY_TO_ONE: &[&str] = &[
+    "elc", "classify", "doc", "tax", "inst", "cert", "--format", "1",
 ];
+
+const CLASSIFY_TO_TWO: &[&str] = &[
+    "elc", "classify", "doc", "tax", "inst", "cert", "--format", "2",
+];
+
+/// What classifies a document, and the first line of the certificate that it writes.
+const CLASSIFYING: &[(&str, &[&str], &str)] = &[
+    ("no format", CLASSIFY, "elcert 2 consistent\n"),
+    ("format 2", CLASSIFY_TO_TWO, "elcert 2 consistent\n"),
+    ("format 1", CLASSIFY_TO_ONE, "elcert 1 consistent\n"),
+];
+
+/// Whether the words write the texts of one subclass axiom, the certificate with that first line, which the checker accepts.
+fn is_written<R: AllocGlobal + RandomSource>(
+    rt: &R,
+    words: &[&str],
+    first: &str,
+) -> Result<bool, Fail> {
+    let (run, texts) = written_by(rt, words, ONE_DOCUMENT)?;
+    let check = check(rt, ONE_DOCUMENT, &texts)?;
+    Ok(
+        run.status == 0
+            && are_texts(&texts, ONE, NO_INSTANCES)
+            && texts.certificate.starts_with(first.as_bytes())
+            && is_run(&check, 0, "accepted\n", ""),
+    )
+}
 
 #[test]
 fn certificates_that_are_written(rt: HostRuntime) -> Result<(), Fail> {
     for row in CLASSIFYING {
-        let (line, first) = *row;
-        let words: Vec<&str> = line.split(' ').collect(rt.alloc())?;
-        let (run, texts) = written_by(&rt, &words, ONE_DOCUMENT)?;
-        let check = check(&rt, ONE_DOCUMENT, &texts)?;
-        assert!(rt;
-            run.status == 0 && are_texts(&texts, ONE, NO_INSTANCES),
-            "{line}"
-        );
-        assert!(rt; texts.certificate.starts_with(first.as_bytes()), "{line}");
-        assert!(rt; is_run(&check, 0, "accepted\n", ""), "{line}");
+        let (case, words, first) = *row;
+        assert!(rt; is_written(&rt, words, first)?, "{case}");
     }
     Ok(())
 }
@@ -98,6 +108,14 @@ fn files_of(alloc: Global, certificate: &[u8]) -> Result<MemoryFiles, Memory> {
     Ok(files)
 }
 
+/// Words that convert the certificate to the format.
+fn converting(format: u8) -> &'static [&'static str] {
+    match format {
+        1 => &["elc", "convert", "doc", "cert", "out", "--format", "1"],
+        _ => &["elc", "convert", "doc", "cert", "out", "--format", "2"],
+    }
+}
+
 /// Whether a run that converts the certificate to the format ends with status 0, prints nothing, and writes this.
 fn is_converted<R: AllocGlobal + RandomSource>(
     rt: &R,
@@ -106,12 +124,21 @@ fn is_converted<R: AllocGlobal + RandomSource>(
     wanted: &[u8],
 ) -> Result<bool, Fail> {
     let mut files = files_of(rt.alloc(), certificate)?;
-    let line = format!(in rt.alloc(); "elc convert doc cert out --format {format}")?;
-    let words: Vec<&str> = line.split(' ').collect(rt.alloc())?;
-    let run = run_of(rt, &words, &mut files)?;
-    let kept = held(rt.alloc(), &files, "cert")?;
-    let out = held(rt.alloc(), &files, "out")?;
-    Ok(is_run(&run, 0, "", "") && kept.as_slice() == certificate && out.as_slice() == wanted)
+    let run = run_of(rt, converting(format), &mut files)?;
+    Ok(
+        is_run(&run, 0, "", "")
+            && files.bytes("cert") == Some(certificate)
+            && files.bytes("out") == Some(wanted),
+    )
+}
+
+/// Whether the certificate in format 1 is converted to that in format 2, and back.
+fn are_converted<R: AllocGlobal + RandomSource>(
+    rt: &R,
+    first: &[u8],
+    second: &[u8],
+) -> Result<bool, Fail> {
+    Ok(is_converted(rt, first, 2, second)? && is_converted(rt, second, 1, first)?)
 }
 
 /// Whether a run that converts the certificate to the format ends with status 1, prints this, and writes nothing.
@@ -122,9 +149,7 @@ fn is_unconverted<R: AllocGlobal + RandomSource>(
     printed: &str,
 ) -> Result<bool, Fail> {
     let mut files = files_of(rt.alloc(), certificate.as_bytes())?;
-    let line = format!(in rt.alloc(); "elc convert doc cert out --format {format}")?;
-    let words: Vec<&str> = line.split(' ').collect(rt.alloc())?;
-    let run = run_of(rt, &words, &mut files)?;
+    let run = run_of(rt, converting(format), &mut files)?;
     Ok(is_run(&run, 1, printed, "") && files.bytes("out").is_none())
 }
 
@@ -147,13 +172,9 @@ fn certificates_there_and_back(rt: HostRuntime) -> Result<(), Fail> {
 
 #[test]
 fn what_is_written_in_one_format_is_converted_to_the_other(rt: HostRuntime) -> Result<(), Fail> {
-    let words = [
-        "elc", "classify", "doc", "tax", "inst", "cert", "--format", "1",
-    ];
-    let (_run, first) = written_by(&rt, &words, ONE_DOCUMENT)?;
-    let (_run, second) = written_by(&rt, CLASSIFY, ONE_DOCUMENT)?;
-    assert!(rt; is_converted(&rt, &first.certificate, 2, &second.certificate)?);
-    assert!(rt; is_converted(&rt, &second.certificate, 1, &first.certificate)?);
+    let first = texts_by(&rt, CLASSIFY_TO_ONE, ONE_DOCUMENT)?;
+    let second = texts_by(&rt, CLASSIFY, ONE_DOCUMENT)?;
+    assert!(rt; are_converted(&rt, &first.certificate, &second.certificate)?);
     Ok(())
 }
 
@@ -183,11 +204,7 @@ fn changed_certificates_are_converted(rt: HostRuntime) -> Result<(), Fail> {
         let text = changed(rt.alloc(), ONE_CERTIFICATE, old, new)?;
         let wanted = changed(rt.alloc(), second.as_str(), old_second, new_second)?;
         assert!(rt;
-            is_converted(&rt, text.as_bytes(), 2, wanted.as_bytes())?,
-            "{new}"
-        );
-        assert!(rt;
-            is_converted(&rt, wanted.as_bytes(), 1, text.as_bytes())?,
+            are_converted(&rt, text.as_bytes(), wanted.as_bytes())?,
             "{new}"
         );
     }
@@ -204,75 +221,94 @@ const LATER: &[(&str, &str, &str)] = &[
     ("K4 a1 3", "K4 a1 99", "cannot convert line 5\n"),
 ];
 
+/// Whether the certificate in format 1 is converted to format 1, as it is, and not to format 2, for the reason that is printed.
+fn is_converted_to_one<R: AllocGlobal + RandomSource>(
+    rt: &R,
+    certificate: &str,
+    printed: &str,
+) -> Result<bool, Fail> {
+    let bytes = certificate.as_bytes();
+    Ok(is_unconverted(rt, certificate, 2, printed)? && is_converted(rt, bytes, 1, bytes)?)
+}
+
 #[test]
 fn certificates_with_later_premises(rt: HostRuntime) -> Result<(), Fail> {
     for row in LATER {
         let (old, new, printed) = *row;
         let text = changed(rt.alloc(), ONE_CERTIFICATE, old, new)?;
-        assert!(rt; is_unconverted(&rt, text.as_str(), 2, printed)?, "{new}");
-        assert!(rt;
-            is_converted(&rt, text.as_bytes(), 1, text.as_bytes())?,
-            "{new}"
-        );
+        assert!(rt; is_converted_to_one(&rt, text.as_str(), printed)?, "{new}");
     }
     Ok(())
 }
 
-#[test]
-fn certificates_without_an_end(rt: HostRuntime) -> Result<(), Fail> {
-    let text = changed(rt.alloc(), ONE_CERTIFICATE, "K4 a1 3", "K4 a1 99")?;
-    let text = changed(rt.alloc(), text.as_str(), "sub e3 e0 K2", "sub e3 e0 K2 1")?;
-    assert!(rt; is_unconverted(&rt, text.as_str(), 2, "cannot convert line 5\n")?);
-    let text = changed(rt.alloc(), text.as_str(), "end\n", "")?;
-    let told = "rejected: C1 at byte 185\n";
-    assert!(rt;
-        is_unconverted(&rt, text.as_str(), 1, told)? && is_unconverted(&rt, text.as_str(), 2, told)?
-    );
-    Ok(())
+/// The certificate with two lines whose premises are not earlier.
+fn with_later_premises(alloc: Global) -> Result<String, Fail> {
+    let text = changed(alloc, ONE_CERTIFICATE, "K4 a1 3", "K4 a1 99")?;
+    changed(alloc, text.as_str(), "sub e3 e0 K2", "sub e3 e0 K2 1")
+}
+
+/// Whether the certificate is converted to neither format, for the reason that is printed.
+fn is_unconverted_to_both<R: AllocGlobal + RandomSource>(
+    rt: &R,
+    certificate: &str,
+    printed: &str,
+) -> Result<bool, Fail> {
+    Ok(is_unconverted(rt, certificate, 1, printed)? && is_unconverted(rt, certificate, 2, printed)?)
 }
 
 #[test]
+fn certificates_without_an_end(rt: HostRuntime) -> Result<(), Fail> {
+    let text = with_later_premises(rt.alloc())?;
+    assert!(rt; is_unconverted(&rt, text.as_str(), 2, "cannot convert line 5\n")?);
+    let cut = changed(rt.alloc(), text.as_str(), "end\n", "")?;
+    assert!(rt; is_unconverted_to_both(&rt, cut.as_str(), "rejected: C1 at byte 185\n")?);
+    Ok(())
+}
+
+const IN_PLACE: &[&str] = &["elc", "convert", "doc", "cert", "cert"];
+
+#[test]
 fn a_certificate_in_its_own_place(rt: HostRuntime) -> Result<(), Fail> {
-    let mut files = files_of(rt.alloc(), ONE_CERTIFICATE.as_bytes())?;
-    let run = run_of(&rt, &["elc", "convert", "doc", "cert", "cert"], &mut files)?;
     let wanted = changed_to_two(rt.alloc())?;
+    let mut files = files_of(rt.alloc(), ONE_CERTIFICATE.as_bytes())?;
+    let run = run_of(&rt, IN_PLACE, &mut files)?;
     assert!(rt; is_run(&run, 0, "", ""));
-    assert!(rt; held(rt.alloc(), &files, "cert")?.as_slice() == wanted.as_bytes());
+    assert!(rt; files.bytes("cert") == Some(wanted.as_bytes()));
     Ok(())
 }
 
 /// Words that convert, a document, what is held at `cert`, and the status and what is told, where nothing can be written.
-const STOPPED: &[(&str, &[u8], &str, u8, &str)] = &[
+const STOPPED: &[(&[&str], &[u8], &str, u8, &str)] = &[
     (
-        "elc convert none cert out",
+        &["elc", "convert", "none", "cert", "out"],
         ONE_DOCUMENT,
         "",
         6,
         "cannot read none\n",
     ),
     (
-        "elc convert doc none out",
+        &["elc", "convert", "doc", "none", "out"],
         ONE_DOCUMENT,
         "",
         6,
         "cannot read none\n",
     ),
     (
-        "elc convert doc none out",
+        &["elc", "convert", "doc", "none", "out"],
         b"Ontology(",
         "",
         3,
         "P2 at byte 9\n",
     ),
     (
-        "elc convert doc cert out --max-bytes 32",
+        &["elc", "convert", "doc", "cert", "out", "--max-bytes", "32"],
         ONE_DOCUMENT,
         "",
         5,
         "limit: more than 32 bytes\n",
     ),
     (
-        "elc convert doc cert out",
+        &["elc", "convert", "doc", "cert", "out"],
         ONE_DOCUMENT,
         ONE_CERTIFICATE,
         6,
@@ -280,15 +316,24 @@ const STOPPED: &[(&str, &[u8], &str, u8, &str)] = &[
     ),
 ];
 
+/// A run over the document and what is held at `cert`, where nothing can be written.
+fn stopped<R: AllocGlobal + RandomSource>(
+    rt: &R,
+    words: &[&str],
+    document: &[u8],
+    certificate: &str,
+) -> Result<Run, Fail> {
+    let mut files = files_with(rt.alloc(), document)?;
+    files.put("cert", certificate.as_bytes())?;
+    files.lock();
+    run_of(rt, words, &mut files)
+}
+
 #[test]
 fn conversions_that_are_stopped(rt: HostRuntime) -> Result<(), Fail> {
     for row in STOPPED {
-        let (line, document, certificate, status, told) = *row;
-        let mut files = files_with(rt.alloc(), document)?;
-        files.put("cert", certificate.as_bytes())?;
-        files.lock();
-        let words: Vec<&str> = line.split(' ').collect(rt.alloc())?;
-        let run = run_of(&rt, &words, &mut files)?;
+        let (words, document, certificate, status, told) = *row;
+        let run = stopped(&rt, words, document, certificate)?;
         assert!(rt; is_run(&run, status, "", told), "{told}");
     }
     Ok(())

@@ -52,12 +52,10 @@ fn a_classification_tells_its_stages(rt: HostRuntime) -> Result<(), Fail> {
 #[test]
 fn what_is_written_is_that_without_progress(rt: HostRuntime) -> Result<(), Fail> {
     let document = DOCUMENT.as_bytes();
+    let telling = texts_by(&rt, TELLING, document)?;
     let (run, texts) = written_by(&rt, CLASSIFY, document)?;
-    let (_, telling) = written_by(&rt, TELLING, document)?;
     assert!(rt; run.err.is_empty());
-    assert!(rt; texts.taxonomy.as_slice() == telling.taxonomy.as_slice());
-    assert!(rt; texts.instances.as_slice() == telling.instances.as_slice());
-    assert!(rt; texts.certificate.as_slice() == telling.certificate.as_slice());
+    assert!(rt; are_same(&texts, &telling));
     Ok(())
 }
 

@@ -11,13 +11,6 @@ pub(super) fn files_asked(alloc: Global, asked: &str) -> Result<MemoryFiles, Mem
     Ok(files)
 }
 
-/// Whether the texts are the same, byte for byte.
-fn are_same(texts: &Texts, others: &Texts) -> bool {
-    texts.taxonomy.as_slice() == others.taxonomy.as_slice()
-        && texts.instances.as_slice() == others.instances.as_slice()
-        && texts.certificate.as_slice() == others.certificate.as_slice()
-}
-
 /// Texts are asked for before the run, and behind it.
 const ASKED: &str = "write tax inst cert
 run
@@ -32,12 +25,18 @@ ok 43
 consistent classes 4 individuals 0 facts 8
 ";
 
+/// What a session over files replies to what is asked, and the texts that it wrote.
+fn spoken<R: AllocGlobal + RandomSource>(rt: &R, asked: &str) -> Result<(Run, Texts), Fail> {
+    let mut files = files_asked(rt.alloc(), asked)?;
+    let run = run_of(rt, SESSION, &mut files)?;
+    let texts = texts_in(rt.alloc(), &files)?;
+    Ok((run, texts))
+}
+
 #[test]
 fn a_session_writes_what_a_classification_does(rt: HostRuntime) -> Result<(), Fail> {
-    let mut files = files_asked(rt.alloc(), ASKED)?;
-    let run = run_of(&rt, SESSION, &mut files)?;
-    let texts = texts_in(rt.alloc(), &files)?;
-    let (_, others) = written_by(&rt, CLASSIFY, ONE_DOCUMENT)?;
+    let others = texts_by(&rt, CLASSIFY, ONE_DOCUMENT)?;
+    let (run, texts) = spoken(&rt, ASKED)?;
     assert!(rt; is_run(&run, 0, REPLIED, ""));
     assert!(rt; are_texts(&texts, ONE, NO_INSTANCES));
     assert!(rt; are_same(&texts, &others));
@@ -76,17 +75,29 @@ const WHOLE: &[u8] = b"Ontology(SubClassOf(<x:A> <x:B>) SubClassOf(<x:B> <x:C>))
 const TWO: &str =
     "eltax 1 consistent\n<http://www.w3.org/2002/07/owl#Thing>\n<x:A> < <x:B>\n<x:B> < <x:C>\n<x:C> < <http://www.w3.org/2002/07/owl#Thing>\nbottom <http://www.w3.org/2002/07/owl#Nothing>\n";
 
+/// Whether the files hold the texts of all that was added, twice each.
+fn hold_all(files: &MemoryFiles) -> bool {
+    hold_texts(files, TWO, NO_INSTANCES)
+        && files.bytes("a") == Some(TWO.as_bytes())
+        && files.bytes("c").is_some()
+        && files.bytes("c") == files.bytes("cert")
+}
+
+/// The texts of the session, where its replies and its files are those.
+fn all_added<R: AllocGlobal + RandomSource>(rt: &R) -> Result<Texts, Fail> {
+    let mut files = files_asked(rt.alloc(), ASKED_ADDED)?;
+    let run = run_of(rt, SESSION, &mut files)?;
+    if !is_run(&run, 0, REPLIED_ADDED, "") || !hold_all(&files) {
+        return Err(Fail::from("other replies or texts"));
+    }
+    Ok(texts_in(rt.alloc(), &files)?)
+}
+
 #[test]
 fn texts_are_those_of_all_that_was_added(rt: HostRuntime) -> Result<(), Fail> {
-    let alloc = rt.alloc();
-    let mut files = files_asked(alloc, ASKED_ADDED)?;
-    let run = run_of(&rt, SESSION, &mut files)?;
-    let texts = texts_in(alloc, &files)?;
-    assert!(rt; is_run(&run, 0, REPLIED_ADDED, ""));
-    assert!(rt; are_texts(&texts, TWO, NO_INSTANCES));
-    assert!(rt; held(alloc, &files, "a")?.as_slice() == TWO.as_bytes());
-    assert!(rt; held(alloc, &files, "c")?.as_slice() == texts.certificate.as_slice());
-    assert!(rt; is_run(&check(&rt, WHOLE, &texts)?, 0, "accepted\n", ""));
+    let texts = all_added(&rt)?;
+    let check = check(&rt, WHOLE, &texts)?;
+    assert!(rt; is_run(&check, 0, "accepted\n", ""));
     Ok(())
 }
 

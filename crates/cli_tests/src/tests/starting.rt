@@ -163,14 +163,28 @@ fn says(bytes: &[u8], word: &str) -> bool {
     }
 }
 
+/// Whether a program with these words prints nothing, ends as with wrong ones, and tells the one word or the other.
+fn is_told<R: AllocGlobal + RandomSource>(
+    rt: &R,
+    words: &[&str],
+    word: &str,
+    other: &str,
+) -> Result<bool, Fail> {
+    let end = run_to_end(rt, words, ONE_DOCUMENT, false)?;
+    Ok(
+        end.status == ExitCode::from(2)
+            && end.out.is_empty()
+            && (says(&end.err, word) || says(&end.err, other)),
+    )
+}
+
+const NO_WORD: &[&str] = &["elc"];
+
 #[test]
 fn wrong_words_are_told_the_usage(rt: HostRuntime) -> Result<(), Fail> {
     for words in REFUSED_WORDS {
-        let end = run_to_end(&rt, *words, ONE_DOCUMENT, false)?;
-        assert!(rt; end.status == ExitCode::from(2) && end.out.is_empty());
-        assert!(rt; says(&end.err, "Usage: elc classify") || says(&end.err, "--max-"));
+        assert!(rt; is_told(&rt, *words, "Usage: elc classify", "--max-")?);
     }
-    let end = run_to_end(&rt, &["elc"], ONE_DOCUMENT, false)?;
-    assert!(rt; end.status == ExitCode::from(2) && says(&end.err, "Usage: elc"));
+    assert!(rt; is_told(&rt, NO_WORD, "Usage: elc", "Usage: elc")?);
     Ok(())
 }

@@ -24,7 +24,7 @@ fn are_rejected<R: AllocGlobal + RandomSource>(
     document: &[u8],
     other: &[u8],
 ) -> Result<bool, Fail> {
-    let (_run, texts) = written_by(rt, CLASSIFY, other)?;
+    let texts = texts_by(rt, CLASSIFY, other)?;
     let run = check(rt, document, &texts)?;
     Ok(run.status == 1 && run.out.starts_with(b"rejected: ".as_slice()) && run.err.is_empty())
 }
