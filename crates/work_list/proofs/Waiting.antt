@@ -1,13 +1,15 @@
 -- Facts that wait, in a list for each context.
-use Rattle.std.proofs.Common.{◌≡◌, ℕ, zero, suc, ◌+◌, ◌<◌, inl, inr, List, [], ◌∷◌, ◌++◌, length, get_or, set, Option, Some, None, refl, sym, ap, ◌∙◌, subst, append-nil, length-append, cond, arith}
+use Rattle.std.proofs.Common.{◌≡◌, ℕ, zero, suc, ◌+◌, ◌<◌, Bool, true, false, inl, inr, List, [], ◌∷◌, ◌++◌, length, get_or, set, Option, Some, None, refl, sym, ap, ◌∙◌, subst, append-nil, length-append, cond, arith}
 use Rattle.std.specs.Prelude.{Contains, ◌⊎◌, IfNone, IfSome}
-use Rattle.std.proofs.lemmas.List.{get_or-map, get_or-set_other, length_push, length-map, map-append, set-get_or}
-use Rattle.std.proofs.lemmas.List.Elements.{Contains-append_cases, Contains-append_right}
+use Rattle.std.proofs.lemmas.Bool.{cases_eq, cases_lt, false≢true}
+use Rattle.std.proofs.lemmas.List.{get_or-map, get_or-set_other, get_or_past, length_push, length-map, map-append, set-get_or}
+use Rattle.std.proofs.lemmas.List.Elements.{Contains-append_cases, Contains-append_left, Contains-append_right, Contains-push}
 use Rattle.std.proofs.lemmas.List.Sums.{sum_by-append, sum_by_push}
+use Rattle.number_sets.specs.Members.{has}
 use Rattle.work_list.specs.declared.item.Item.{Item}
 use Rattle.work_list.specs.Bag.{Adds, HasItemOf, is_item}
-use Rattle.work_list.specs.Groups.{PopsTogether}
-use Rattle.work_list.specs.Waiting.{AllStand, IsSame, item_of, items_from, items_in, items_of, list_at}
+use Rattle.work_list.specs.Groups.{Begins, PopsTogether}
+use Rattle.work_list.specs.Waiting.{AllStand, AreStacked, HaveRoom, IsSame, IsSameBut, item_of, items_from, items_in, items_of, list_at}
 
 -- ---- room for a context more
 
@@ -127,12 +129,39 @@ no_items ls none = go (items_in ls) refl
 pub nobody : (ls : List (List ℕ)) (stack : List ℕ) → AllStand ls stack → stack ≡ [] → (c : ℕ) → 0 < length (list_at ls c) → ⊥
 nobody ls stack all none c some = (let there = subst (λ xs. Contains xs c) none (all c some) in omega (arith, there.1))
 
+-- the context is put on top of the stack, and facts of no other come or go
+pub stacked_more : (ls ms : List (List ℕ)) (stack stack' : List ℕ) (last : Option ℕ) (context : ℕ) → AreStacked ls stack last → IsSameBut context ls ms → stack' ≡ stack ++ context ∷ [] → AreStacked ms stack' last
+stacked_more ls ms stack stack' last context all same is c some = elim (cases_eq c context) [
+  | inl e ↦ inr (subst (λ (xs : List ℕ). Contains xs c) (sym is) (subst (Contains (stack ++ context ∷ [])) (sym e) (Contains-push stack context)))
+  | inr apart ↦ (elim (all c (subst (λ (l : List ℕ). 0 < length l) (same c apart) some)) [
+    | inl turn ↦ inl turn
+    | inr there ↦ inr (subst (λ (xs : List ℕ). Contains xs c) (sym is) (Contains-append_left stack (context ∷ []) c there))
+  ])
+]
+
+-- ---- contexts that have had their turn
+
+-- there is room for one that has
+pub room_for : (begun : List Bool) (c : ℕ) → has begun c ≡ true → c < length begun
+room_for begun c h = elim (cases_lt c (length begun)) [
+  | inl low ↦ low
+  | inr past ↦ absurd (false≢true (sym (get_or_past begun c false past) ∙ h))
+]
+
+-- facts of a context for which there is room come or go
+pub room_still : (ls ms : List (List ℕ)) (last : Option ℕ) (begun : List Bool) (context : ℕ) → HaveRoom ls last begun → IsSameBut context ls ms → context < length begun → HaveRoom ms last begun
+room_still ls ms last begun context h same low = record {
+  last_has = h.last_has;
+  room = λ c some. elim (cases_eq c context) [ inl e ↦ omega (arith, e, low) | inr apart ↦ h.room c (subst (λ (l : List ℕ). 0 < length l) (same c apart) some) ];
+}
+
 -- where the context whose turn it was has no facts, an item of the one that comes next is popped
-pub next_taken : (r : Option Item) (ls ms ns : List (List ℕ)) (last : Option ℕ) (context : ℕ) → ms ≡ ls → IfSome r (λ item. Adds item (items_in ns) (items_in ms)) → IfSome r (λ item. Some context ≡ Some item.context) → IfNone r ((c : ℕ) → Some context ≡ Some c → list_at ms c ≡ [])
-    → ((c : ℕ) → last ≡ Some c → list_at ls c ≡ []) → 0 < length (list_at ms context) → PopsTogether r (record { items = items_in ls; last = last }) (record { items = items_in ns; last = Some context })
-next_taken None ls ms ns last context same adds is none gone some = absurd (omega (arith, some, ap length (none context refl)))
-next_taken (Some item) ls ms ns last context same adds is none gone some = record {
+pub next_taken : (r : Option Item) (ls ms ns : List (List ℕ)) (last : Option ℕ) (context : ℕ) (old new : List Bool) → ms ≡ ls → IfSome r (λ item. Adds item (items_in ns) (items_in ms)) → IfSome r (λ item. Some context ≡ Some item.context) → IfNone r ((c : ℕ) → Some context ≡ Some c → list_at ms c ≡ [])
+    → ((c : ℕ) → last ≡ Some c → list_at ls c ≡ []) → 0 < length (list_at ms context) → Begins context old new → PopsTogether r (record { items = items_in ls; last = last; begun = old }) (record { items = items_in ns; last = Some context; begun = new })
+next_taken None ls ms ns last context old new same adds is none gone some begins = absurd (omega (arith, some, ap length (none context refl)))
+next_taken (Some item) ls ms ns last context old new same adds is none gone some begins = record {
   items = subst (λ (xs : List (List ℕ)). Adds item (items_in ns) (items_in xs)) same adds;
   together = λ other there turn. absurd (omega (arith, has_facts ls other there, ap length (gone other.context turn)));
   last = is;
+  begun = subst (λ (c : ℕ). Begins c old new) (cc) begins;
 }

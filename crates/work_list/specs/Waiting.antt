@@ -1,5 +1,7 @@
 -- Facts that wait, in a list for each context, and the contexts on a stack.
-use Rattle.std.specs.Prelude.{◌≡◌, ◌⊎◌, ℕ, suc, ◌<◌, List, [], ◌∷◌, ◌++◌, Contains, Option, Some, length, map, slice_index_or}
+use Rattle.std.specs.Prelude.{◌≡◌, ◌⊎◌, ℕ, suc, ◌<◌, Bool, true, List, [], ◌∷◌, ◌++◌, Contains, Option, Some, length, map, slice_index_or}
+use Rattle.number_sets.specs.Members.{has}
+use Rattle.work_list.specs.declared.begun.Begun.{Begun}
 use Rattle.work_list.specs.declared.item.Item.{Item}
 use Rattle.work_list.specs.declared.groups.Groups.{Groups}
 use Rattle.work_list.specs.Groups.{Grouped}
@@ -39,6 +41,11 @@ AllStand lists stack = (c : ℕ) → 0 < length (list_at lists c) → Contains s
 abbrev pub AreStacked : List (List ℕ) → List ℕ → Option ℕ → Type 0
 AreStacked lists stack last = (c : ℕ) → 0 < length (list_at lists c) → (last ≡ Some c) ⊎ Contains stack c
 
+-- the context whose turn it is has had one, and for each context that has facts there is room among those that may have had one
+pub record HaveRoom (lists : List (List ℕ)) (last : Option ℕ) (begun : List Bool) : Type 0 where
+  pub last_has : (c : ℕ) → last ≡ Some c → has begun c ≡ true
+  pub room : (c : ℕ) → 0 < length (list_at lists c) → c < length begun
+
 -- what is seen of them
-abbrev pub grouped : Groups → Option ℕ → Grouped
-grouped groups last = record { items = items_in groups.lists.items; last = last }
+abbrev pub grouped : Groups → Option ℕ → Begun → Grouped
+grouped groups last begun = record { items = items_in groups.lists.items; last = last; begun = begun.contexts.items }

@@ -1,8 +1,9 @@
 //! The items of one context together.
-ghost use Rattle.std.specs.Prelude.{◌≡◌, ◌<◌, [], ℕ, None, Some, IfNone, IfSome, IsTrue, ◌↔◌, OnErr, OnOk, length};
+ghost use Rattle.std.specs.Prelude.{◌≡◌, ◌<◌, [], ℕ, false, None, Some, IfNone, IfSome, IsTrue, ◌↔◌, OnErr, OnOk, length};
+ghost use Rattle.number_sets.specs.Members.{has};
 ghost use Rattle.work_list.specs.Bag.{Adds};
-ghost use Rattle.work_list.specs.Groups.{LeadsTo, PopsTogether, PushesInto};
-ghost use Rattle.work_list.specs.Waiting.{AllStand, AreStacked, grouped, items_in, list_at};
+ghost use Rattle.work_list.specs.Groups.{HaveSame, LeadsTo, PopsTogether, PushesInto};
+ghost use Rattle.work_list.specs.Waiting.{AllStand, AreStacked, HaveRoom, grouped, items_in, list_at};
 
 use crate::begun::Begun;
 use crate::groups::Groups;
@@ -13,14 +14,14 @@ use std::alloc::{AllocError, Global};
 use std::marker::Model;
 
 /// Pops an item of the context whose turn it is, which is that of the item that it popped last or one that it was led to since, while
-/// that has any, and then goes on to the context that began to wait last, or had to wait for another. It is meant to be led to a context
-/// only before that has had its turn, which no clause says: which item is popped matters for time alone. It is seen as its items, in no
-/// order that means anything, and the context whose turn it is.
-/// A push and a pop take constant time on the whole, however many items and contexts there are. A push hands the item back where
-/// memory is refused, or where a `usize` cannot count the items. Memory goes by the largest number of a context, 16 bytes for each
-/// number up to it, and a byte for each up to the largest that had its turn; by the items, 4 bytes for each of a context's where they were more than three since it last had none; and by the
-/// contexts that wait, 4 bytes for each, and as many for each that it was led away from. Where one of these lists is full, it makes
-/// room for half as many more.
+/// that has any, and then goes on to the context that began to wait last, or had to wait for another. It is led to a context only
+/// before that has had its turn. It is seen as its items, in no order that means anything, the context whose turn it is, and the
+/// contexts that have had theirs.
+/// A push and a pop take constant time on the whole, however many items and contexts there are. A pop takes no memory. A push hands the
+/// item back where memory is refused, or where a `usize` cannot count the items. Memory goes by the largest number of a context, 16
+/// bytes for each number up to it, and a byte that says whether it has had its turn; by the items, 4 bytes for each of a context's where
+/// they were more than three since it last had none; and by the contexts that wait, 4 bytes for each, and as many for each that it was
+/// led away from. Where one of these lists is full, it makes room for half as many more.
 #[derive(Drop)]
 pub struct ByContext {
     /// The facts of each context.
@@ -38,13 +39,13 @@ pub struct ByContext {
 impl Model for ByContext {
     ghost use Rattle.std.specs.Prelude.{◌≡◌, length};
     ghost use Rattle.work_list.specs.Groups.{Grouped};
-    ghost use Rattle.work_list.specs.Waiting.{AreStacked, grouped, items_in};
+    ghost use Rattle.work_list.specs.Waiting.{AreStacked, HaveRoom, grouped, items_in};
 
     ghost Value = { Grouped };
 
-    ghost view = { λ b. grouped b.groups b.last };
+    ghost view = { λ b. grouped b.groups b.last b.begun };
 
-    ghost invariant = { λ b. AreStacked b.groups.lists.items b.stack.items b.last × (b.count ≡ length (items_in b.groups.lists.items)) };
+    ghost invariant = { λ b. AreStacked b.groups.lists.items b.stack.items b.last × (b.count ≡ length (items_in b.groups.lists.items)) × HaveRoom b.groups.lists.items b.last b.begun.contexts.items };
 }
 
 /// Whether it is the turn of the context.
@@ -58,22 +59,28 @@ fn is_last(last: Option<u32>, context: u32) -> bool
     }
 }
 
-/// Adds an item to those that wait. Fails where memory is refused; then no item changes.
+/// Adds an item to those that wait, and makes room for its context among those that have had their turn. Fails where memory is refused;
+/// then no item changes.
 #[inline(always)]
 fn push(
     groups: &mut Groups,
     stack: &mut Vec<u32>,
+    begun: &mut Begun,
     last: Option<u32>,
     item: Item,
 ) -> Result<(), AllocError>
-    requires { AreStacked groups.old.lists.items stack.old.items last }
+    requires stacked { AreStacked groups.old.lists.items stack.old.items last }
+    requires room { HaveRoom groups.old.lists.items last begun.old.contexts.items }
     ensures stacked { AreStacked groups.new.lists.items stack.new.items last }
+    ensures room { HaveRoom groups.new.lists.items last begun.new.contexts.items }
+    ensures begun { HaveSame begun.old.contexts.items begun.new.contexts.items }
     ensures ok { OnOk result (Adds item (items_in groups.old.lists.items) (items_in groups.new.lists.items)) }
     ensures err { OnErr result (items_in groups.new.lists.items ≡ items_in groups.old.lists.items) }
 {
     if is_last(last, item.context) || groups.has(item.context) {
         return groups.push(item);
     }
+    begun.grow(item.context)?;
     make_room(stack)?;
     groups.push(item)?;
     stack.push_reserved(item.context);
@@ -115,9 +122,11 @@ fn pop(
     begun: &mut Begun,
     last: &mut Option<u32>,
 ) -> Option<Item>
-    requires { AreStacked groups.old.lists.items stack.old.items last.old }
+    requires stacked { AreStacked groups.old.lists.items stack.old.items last.old }
+    requires room { HaveRoom groups.old.lists.items last.old begun.old.contexts.items }
     ensures stacked { AreStacked groups.new.lists.items stack.new.items last.new }
-    ensures together { PopsTogether result (grouped groups.old last.old) (grouped groups.new last.new) }
+    ensures room { HaveRoom groups.new.lists.items last.new begun.new.contexts.items }
+    ensures together { PopsTogether result (grouped groups.old last.old begun.old) (grouped groups.new last.new begun.new) }
 {
     if let Some(item) = take(groups, *last) {
         return Some(item);
@@ -147,7 +156,7 @@ fn set_aside(groups: &Groups, stack: &mut Vec<u32>, last: Option<u32>) -> Result
 impl ByContext {
     /// A list with no item.
     pub fn new(alloc: Global) -> Self
-        ensures { result ≡ record { items = []; last = None } }
+        ensures { result ≡ record { items = []; last = None; begun = [] } }
     {
         ByContext {
             groups: Groups::new(alloc),
@@ -158,8 +167,9 @@ impl ByContext {
         }
     }
 
-    /// Gives the context its turn, and answers `true`, where it has items.
+    /// Gives the context, which has not had its turn, one, and answers `true`, where it has items.
     fn lead(&mut self, context: u32) -> bool
+        requires { has self.old.begun context ≡ false }
         ensures { LeadsTo context result self.old self.new }
     {
         if !self.groups.has(context) {
@@ -181,11 +191,18 @@ impl WorkList for ByContext {
     fn push(&mut self, item: Item) -> Result<(), Item>
         ensures items { PushesInto item result self.old.items self.new.items }
         ensures last { self.new.last ≡ self.old.last }
+        ensures begun { HaveSame self.old.begun self.new.begun }
     {
         let Some(count) = self.count.checked_add(1) else {
             return Err(item);
         };
-        let Ok(()) = push(&mut self.groups, &mut self.stack, self.last, item) else {
+        let Ok(()) = push(
+            &mut self.groups,
+            &mut self.stack,
+            &mut self.begun,
+            self.last,
+            item,
+        ) else {
             return Err(item);
         };
         self.count = count;
