@@ -1,9 +1,9 @@
 -- Ways back are paths, and what is kept of them.
-use Rattle.std.proofs.Common.{◌≡◌, ℕ, ◌≤◌, ◌⊎◌, inl, inr, List, [], ◌∷◌, ◌++◌, length, slice_get, Option, Some, None, refl, sym, ap, ◌∙◌, subst, arith}
+use Rattle.std.proofs.Common.{◌≡◌, ℕ, ◌+◌, ◌≤◌, ◌⊎◌, inl, inr, List, [], ◌∷◌, ◌++◌, length, slice_get, Option, Some, None, refl, sym, ap, ◌∙◌, subst, arith}
 use Rattle.std.specs.List.{All}
-use Rattle.std.specs.Prelude.{reverse}
+use Rattle.std.specs.Prelude.{Result, Ok, Err, IfOk, MatchOption, reverse}
 use Rattle.std.proofs.lemmas.Bool.{cases_lt}
-use Rattle.std.proofs.lemmas.List.{append_assoc, append-nil, reverse-append, get_or_past}
+use Rattle.std.proofs.lemmas.List.{append_assoc, append-nil, length_push, reverse-append, get_or_past}
 use Rattle.std.proofs.lemmas.List.Elements.{All-contains}
 use Rattle.std.proofs.lemmas.Option.{none-some, same_Some}
 use Rattle.lemmas.proofs.Members.{Contains-from_slice_get, slice_get-from_Contains}
@@ -15,10 +15,12 @@ use Rattle.normal_forms.specs.declared.forms.PropId2.{PropId2}
 use Rattle.normal_forms.specs.declared.forms.PropId2.TheVariants.{Property}
 use Rattle.normal_forms.specs.Properties.{IsAtOrBelow, IsPropertyFormOf, same, step}
 use Rattle.number_sets.specs.Pieces.{list_at}
+use Rattle.number_sets.proofs.Members.{each_more}
 use Rattle.explain.specs.declared.reached.Reached.{Reached}
 use Rattle.explain.specs.declared.reached.Way.{Way}
+use Rattle.explain.specs.declared.told.Told.{Told}
 use Rattle.explain.specs.Paths.{IsChain, IsPath}
-use Rattle.explain.specs.Search.{AreAllReached, AreEarlier, AreLeadsWithin, AreReached, AreWays, HasNo, IsTrace, IsWay, LeadsOver, LeadsUp, StandsAt, as_id, as_individual}
+use Rattle.explain.specs.Search.{AreAllReached, AreEarlier, AreLeadsWithin, AreReached, AreReachedOrNone, AreWays, HasNo, IsTrace, IsWay, LeadsOver, LeadsUp, StandsAt, as_id, as_individual}
 use Rattle.explain.specs.Search as search
 use Rattle.explain.proofs.Reaching.{led_up}
 
@@ -88,27 +90,35 @@ chain_along forms i (n ∷ ns) j (h, link, rest) = (as_individual h, link, chain
 
 -- ---- what is kept for a property
 
--- its list, or none where it is out of range
-pub kept_at : (forms : List Form) (lists : List (List Reached)) (p : ℕ) (list : List Reached) → AreAllReached forms lists → list ≡ list_at lists p
-    → AreReached (LeadsUp forms) p list ⊎ ((list ≡ []) × (length lists ≤ p))
-kept_at forms lists p list w is = elim (cases_lt p (length lists)) [
-  | inl l ↦ inl (subst (AreReached (LeadsUp forms) p) (sym is) (w.each p l))
-  | inr l ↦ inr (is ∙ get_or_past lists p [] l, l)
+-- its list, where that is not empty
+pub kept_at : (forms : List Form) (told : List (List Told)) (lists : List (List Reached)) (p : ℕ) (list : List Reached) → AreAllReached forms told lists → list ≡ list_at lists p → (list ≡ [] → ⊥) → AreReached (LeadsUp forms) p list
+kept_at forms told lists p list w is some = elim (w.each p) [
+  | inl e ↦ absurd (some (is ∙ e))
+  | inr h ↦ subst (AreReached (LeadsUp forms) p) (sym is) h
 ]
 
-none_there : (list : List Reached) (d place : ℕ) → list ≡ [] → StandsAt list d place → ⊥
-none_there list d place e s = none-some s.0 (subst (λ (xs : List Reached). slice_get xs place ≡ Some s.0) e s.1)
+-- the way to what was reached is a path
+pub path_by : (forms : List Form) (p d : PropId) (list : List Reached) (numbers : List ℕ) → AreReached (LeadsUp forms) p.0 list → (place : ℕ) × StandsAt list d.0 place × IsTrace list place numbers → IsPath forms p numbers d
+path_by forms p d list numbers h (place, stands, trace) = path_along forms p numbers d (leads_along (LeadsUp forms) p.0 d.0 list place numbers h.ways stands trace)
 
-pub kept_earlier : (forms : List Form) (lists : List (List Reached)) (p : ℕ) (list : List Reached) → AreAllReached forms lists → list ≡ list_at lists p → AreEarlier list
-kept_earlier forms lists p list w is = elim (kept_at forms lists p list w is) [
-  | inl h ↦ earlier (LeadsUp forms) p list h.ways
-  | inr h ↦ λ place r way g e. absurd (none_there list r.number place h.0 (r, g, refl))
-]
+-- what was not reached is not above
+pub not_above : (forms : List Form) (p d : PropId) (list : List Reached) → AreReached (LeadsUp forms) p.0 list → HasNo list d.0 → IsAtOrBelow forms (Property p) (Property d) → ⊥
+not_above forms p d list h hidden below = let at = h.all d.0 (led_up forms p (Property d) below d refl) in hidden at.0 at.1
 
-pub kept_ways : (forms : List Form) (lists : List (List Reached)) (p d place : ℕ) (list : List Reached) → AreAllReached forms lists → list ≡ list_at lists p → StandsAt list d place → AreWays (LeadsUp forms) p list
-kept_ways forms lists p d place list w is s = elim (kept_at forms lists p list w is) [
-  | inl h ↦ h.ways
-  | inr h ↦ absurd (none_there list d place h.0 s)
+-- what is told of the way is told of the path
+pub way_is : {V E : Type 0} (numbers : V → List ℕ) (forms : List Form) (p d : PropId) (list : List Reached) (result : Result (Option V) E) → AreReached (LeadsUp forms) p.0 list
+    → IfOk result (λ found. MatchOption found (HasNo list d.0) (λ v. (place : ℕ) × StandsAt list d.0 place × IsTrace list place (numbers v)))
+    → IfOk result (λ found. MatchOption found (IsAtOrBelow forms (Property p) (Property d) → ⊥) (λ v. IsPath forms p (numbers v) d))
+way_is numbers forms p d list (Ok None) h hidden = not_above forms p d list h hidden
+way_is numbers forms p d list (Ok (Some v)) h way = path_by forms p d list (numbers v) h way
+way_is numbers forms p d list (Err e) h way = way
+
+-- one list more, that of the next property
+pub each_or_none : (forms : List Form) (lists : List (List Reached)) (list : List Reached) (n : ℕ) → length lists ≡ n → ((p : ℕ) → AreReachedOrNone (LeadsUp forms) p (list_at lists p)) → AreReachedOrNone (LeadsUp forms) n list
+    → (p : ℕ) → AreReachedOrNone (LeadsUp forms) p (list_at (lists ++ list ∷ []) p)
+each_or_none forms lists list n long before last p = elim (cases_lt p (n + 1)) [
+  | inl l ↦ each_more (AreReachedOrNone (LeadsUp forms)) lists list n long (λ k _. before k) last p l
+  | inr l ↦ inl (get_or_past (lists ++ list ∷ []) p [] (omega (arith, l, long, length_push lists list)))
 ]
 
 -- a property that no form leads on from is below itself alone
@@ -120,14 +130,11 @@ alone forms p none _ (step s t h form) =
     let n = slice_get-from_Contains forms _ form in
     absurd (none n.0 t.0 (subst (λ (x : PropId). LeadsUp forms n.0 x.0 t.0) is n.1))
 
-pub kept_none : (forms : List Form) (lists : List (List Reached)) (p d : PropId) (list : List Reached) → AreAllReached forms lists → list ≡ list_at lists p.0 → HasNo list d.0 → (p.0 ≡ d.0 → ⊥) → IsAtOrBelow forms (Property p) (Property d) → ⊥
-kept_none forms lists p d list w is hidden apart below = elim (kept_at forms lists p.0 list w is) [
-  | inl h ↦ let at = h.all d.0 (led_up forms p (Property d) below d refl) in hidden at.0 at.1
-  | inr h ↦
-      let e : Property d ≡ Property p = alone forms p (λ n s leads. let l = (w.within n p.0 s leads).0 in absurd (omega (arith, h.1, l))) (Property d) below in
-      let i : d ≡ p = cc in
-      apart (ap (λ (x : PropId). x.0) (sym i))
-]
+pub beyond : (bound : ℕ) (forms : List Form) (p d : PropId) → AreLeadsWithin bound (LeadsUp forms) → bound ≤ p.0 → (p ≡ d → ⊥) → IsAtOrBelow forms (Property p) (Property d) → ⊥
+beyond bound forms p d within past apart below =
+    let e : Property d ≡ Property p = alone forms p (λ n s leads. let l = (within n p.0 s leads).0 in absurd (omega (arith, past, l))) (Property d) below in
+    let i : p ≡ d = cc in
+    apart i
 
 -- ---- what is made
 

@@ -1,6 +1,6 @@
 -- The search along forms from one number, with the way to each number that it reaches: from a property to those above it, or from an
 -- individual to those that are one with it.
-use Rattle.std.specs.Prelude.{◌≡◌, ℕ, ◌<◌, ◌↔◌, List, [], ◌∷◌, ◌++◌, length, slice_get, Option, Some, None}
+use Rattle.std.specs.Prelude.{◌≡◌, ℕ, ◌<◌, ◌≤◌, ◌^◌, ◌⊎◌, ◌↔◌, List, [], ◌∷◌, ◌++◌, length, slice_get, Option, Some, None}
 use Rattle.std.specs.List.{Contains}
 use Rattle.axioms.specs.declared.ids.IndId.{IndId}
 use Rattle.axioms.specs.declared.ids.PropId.{PropId}
@@ -92,7 +92,13 @@ step_from from t = record { number = t.to; way = Some (record { form = t.form; f
 
 -- ---- what is kept
 
--- for each property below a bound those above it; other properties are below themselves alone
-pub record AreAllReached (forms : List Form) (lists : List (List Reached)) : Type 0 where
-  pub within : AreLeadsWithin (length lists) (LeadsUp forms)
-  pub each : (p : ℕ) → p < length lists → AreReached (LeadsUp forms) p (list_at lists p)
+-- these are c and all that forms lead to from it, with the ways to them, or none was looked for
+abbrev pub AreReachedOrNone : (ℕ → ℕ → ℕ → Type 0) → ℕ → List Reached → Type 0
+AreReachedOrNone Leads c found = (found ≡ []) ⊎ AreReached Leads c found
+
+-- for each property below a bound the plain forms that lead from it; and for each property those above it, or none
+pub record AreAllReached (forms : List Form) (told : List (List Told)) (lists : List (List Reached)) : Type 0 where
+  pub few : length told ≤ 2 ^ 32
+  pub within : AreLeadsWithin (length told) (LeadsUp forms)
+  pub leads : AreTold (length told) (LeadsUp forms) told
+  pub each : (p : ℕ) → AreReachedOrNone (LeadsUp forms) p (list_at lists p)

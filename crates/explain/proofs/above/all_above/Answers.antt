@@ -1,15 +1,15 @@
-use Rattle.std.proofs.Common.{◌≡◌, ◌∷◌, [], ◌++◌, List, length, sym, ap, ◌∙◌, subst, arith}
+use Rattle.std.proofs.Common.{◌≡◌, ◌∷◌, [], ◌++◌, List, length, inl, inr, refl, sym, ap, ◌∙◌, subst, arith}
 use Rattle.std.proofs.lemmas.List.{length_push}
 use Rattle.number_sets.specs.Pieces.{list_at}
-use Rattle.number_sets.proofs.Members.{each_more}
 use Rattle.explain.specs.declared.reached.Reached.{Reached}
-use Rattle.explain.specs.Search.{AreReached, LeadsUp}
+use Rattle.explain.specs.Search.{AreReached, AreReachedOrNone, LeadsUp}
 use Rattle.explain.proofs.Reaching.{bounded, reached}
+use Rattle.explain.proofs.WalkingUp.{each_or_none}
+use Rattle.explain.proofs.above.all_above.Goals.{then-contains+in_ok-run+in_ok-push_list, else-contains+in_ok-push_list-2}
 use Rattle.explain.proofs.above.all_above.Goals as goal
 
 pub run-requires-clause-bounded : goal.run-requires-clause-bounded
-run-requires-clause-bounded c =
-    bounded (LeadsUp c.args.forms.now) c.args.properties c.in_ok-told.told c.in_ok-told.ensures c.requires.within
+run-requires-clause-bounded c = bounded (LeadsUp c.args.forms.now) (length c.args.told.now) c.args.told.now c.requires.told c.requires.within
 
 pub loop-property-preserved : goal.loop-property-preserved
 loop-property-preserved c =
@@ -17,12 +17,20 @@ loop-property-preserved c =
     let k = c.loop-property.property in
     let before = c.loop-property.invariant in
     let lists = c.loop-property.above in
-    let list = c.deref.result.now in
-    let told = c.in_ok-told.ensures in
-    let is : c.push_list.new.self ≡ lists ++ list ∷ [] = c.in_ok-push_list.ensures.ok in
-    let found = reached (LeadsUp forms) c.args.properties c.in_ok-told.told told k c.run.new.self.found.items c.in_ok-run.ensures.found in
-    let new : AreReached (LeadsUp forms) k list = subst (AreReached (LeadsUp forms) k) (sym c.deref.ensures.value) found in record {
-      long = omega (arith, ap length is, length_push lists list, before.long);
-      wide = c.in_ok-run.ensures.wide ∙ told.long;
-      each = λ p l. subst (λ (now : List (List Reached)). AreReached (LeadsUp forms) p (list_at now p)) (sym is) (each_more (λ n. AreReached (LeadsUp forms) n) lists list k before.long before.each new p l);
-    }
+    elim c.if-contains.branch [
+      | then-contains+in_ok-run+in_ok-push_list w ↦
+          let list = w.deref.result.now in
+          let is : w.push_list.new.self ≡ lists ++ list ∷ [] = w.in_ok-push_list.ensures.ok in
+          let found = reached (LeadsUp forms) (length c.args.told.now) c.args.told.now c.requires.told k w.run.new.self.found.items w.in_ok-run.ensures.found in
+          let new : AreReached (LeadsUp forms) k list = subst (AreReached (LeadsUp forms) k) (sym w.deref.ensures.value) found in record {
+            long = omega (arith, ap length is, ap length w.above-is, length_push lists list, before.long);
+            wide = grind (arith, w.in_ok-run.ensures.wide, w.search-is);
+            each = λ p. subst (λ (now : List (List Reached)). AreReachedOrNone (LeadsUp forms) p (list_at now p)) (sym (w.above-is ∙ is)) (each_or_none forms lists list k before.long before.each (inr new) p);
+          }
+      | else-contains+in_ok-push_list-2 w ↦
+          let is : w.push_list-else-contains.new.self ≡ lists ++ [] ∷ [] = w.in_ok-push_list-2.ensures.ok in record {
+            long = omega (arith, ap length is, ap length w.above-is, length_push lists [], before.long);
+            wide = grind (arith, before.wide, w.search-is);
+            each = λ p. subst (λ (now : List (List Reached)). AreReachedOrNone (LeadsUp forms) p (list_at now p)) (sym (w.above-is ∙ is)) (each_or_none forms lists [] k before.long before.each (inl refl) p);
+          }
+    ]
