@@ -28,6 +28,8 @@ mod intersections;
 #[cfg(test)]
 mod large;
 #[cfg(test)]
+mod led;
+#[cfg(test)]
 mod listed_facts;
 #[cfg(test)]
 mod lists;

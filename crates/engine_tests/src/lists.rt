@@ -1,5 +1,6 @@
-//! Lists of work that a test rules: one pops by a script, one hands an item back.
-ghost use Rattle.std.specs.Prelude.{◌≡◌, []};
+//! Lists of work that a test rules: one pops by a script, one hands an item back, one is led to any context.
+ghost use Rattle.std.specs.Prelude.{◌≡◌, ◌<◌, [], IfSome, length};
+ghost use Rattle.work_list.specs.Bag.{HasItemOf};
 
 use std::alloc::Global;
 use work_list::{Fifo, Item, WorkList};
@@ -84,5 +85,78 @@ impl WorkList for Refusing {
 
     fn len(&self) -> usize {
         self.items.len()
+    }
+}
+
+/// The place of the first item of the context, if there is one.
+fn place_of(items: &[Item], context: u32) -> Option<usize>
+    ensures low { IfSome result (λ place. place < length items.now) }
+    ensures has { IfSome result (λ _. HasItemOf context items.now) }
+{
+    for place in 0..items.len() {
+        if items[place].context == context {
+            return Some(place);
+        }
+    }
+    None
+}
+
+/// The place of the first item of the context that the list was led to last, if there is one, and else of the last item.
+fn place_led_to(items: &[Item], led: Option<u32>) -> usize
+    requires { 0 < length items.now }
+    ensures { result < length items.now }
+{
+    let last = items.len() - 1;
+    match led {
+        Some(context) => place_of(items, context).unwrap_or(last),
+        None => last,
+    }
+}
+
+/// Last in, first out, but items of the context that it was led to last come before all others. It is led to each context of which an
+/// item waits, whenever it is asked, and as often.
+#[derive(Drop)]
+pub(crate) struct Led {
+    items: Vec<Item>,
+    led: Option<u32>,
+}
+
+impl Led {
+    /// A list with no item, led nowhere.
+    pub(crate) fn new(alloc: Global) -> Self
+        ensures { result.items.items ≡ [] }
+    {
+        Led {
+            items: Vec::new(alloc),
+            led: None,
+        }
+    }
+}
+
+impl WorkList for Led {
+    ghost pending = { λ l. l.items.items };
+
+    fn push(&mut self, item: Item) -> Result<(), Item> {
+        self.items.push(item).map_err(|refused| refused.value)
+    }
+
+    fn pop(&mut self) -> Option<Item> {
+        if self.items.is_empty() {
+            return None;
+        }
+        let place = place_led_to(&self.items, self.led);
+        Some(self.items.remove(place))
+    }
+
+    fn len(&self) -> usize {
+        self.items.len()
+    }
+
+    fn lead_to(&mut self, context: u32) -> bool {
+        if place_of(&self.items, context).is_none() {
+            return false;
+        }
+        self.led = Some(context);
+        true
     }
 }

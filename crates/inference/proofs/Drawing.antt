@@ -22,7 +22,7 @@ use Rattle.inference.proofs.Lists.{Contains-from_slice_get, one_value, take_push
 
 -- where nothing stops the work, what is drawn is there
 pub draws : {rules : Rules} {old new : Derived} {IsDrawn : Type 0} → Grows rules.problem.now rules.max_facts old new → IsDrawn → Draws rules old new (Ok tt) IsDrawn
-draws grows drawn = record { grows = grows; limit = λ e. absurd (cc); drawn = drawn }
+draws grows drawn = record { grows = grows; limit = λ e. absurd (cc); full = λ e. absurd (cc); drawn = drawn }
 
 -- facts stay where they are
 pub at_still : (a b : List Fact) → Keeps a b → (numbers : List ℕ) (older : List Fact) → AreAt a numbers older → AreAt b numbers older

@@ -169,6 +169,7 @@ no_run max_facts s state many = record {
   within = tt;
   few = tt;
   limit = λ _. too_many state.born max_facts many;
+  full = λ _. omega (arith, many);
   most = λ low. low;
   idle = λ _. (refl, λ e. cc);
 }

@@ -65,6 +65,8 @@ pub record HasRun (max_facts : ℕ) (old new : Seen) (result : Result Unit Stop)
   pub within : OnOk result (length new.facts ≤ max_facts)
   pub few : OnOk result (HasMoreFactsThan new.problem max_facts → ⊥)
   pub limit : result ≡ Err Limit → HasMoreFactsThan old.problem max_facts
+  -- what was drawn up to the limit stays
+  pub full : result ≡ Err Limit → max_facts ≤ length new.facts
   pub most : length old.facts ≤ max_facts → length new.facts ≤ max_facts
   -- with nothing pending nothing changes, and memory is not refused
   pub idle : length old.served ≡ length old.facts → (new ≡ old) × ¬ (result ≡ Err Memory)

@@ -256,7 +256,8 @@ impl<W: WorkList> State<W> {
     ///
     /// # Errors
     ///
-    /// Only where a fact is pending. After either the fact in hand is still pending, and conclusions that were drawn stay.
+    /// Only where a fact is pending. After either the fact in hand is still pending, and conclusions that were drawn stay: after `Limit`
+    /// there are as many facts as may be.
     pub fn step(&mut self, max_facts: u32) -> Result<bool, Stop>
         ensures extends { Extends self.old self.new }
         ensures state { IsState self.new }
@@ -270,6 +271,7 @@ impl<W: WorkList> State<W> {
         ensures pending { IfOk result (λ more. (more ≡ false) ↔ (length self.old.served ≡ length self.old.facts)) }
         ensures done { result ≡ Ok false → IsClosure self.new.problem self.new.facts }
         ensures limit { result ≡ Err Stop.Limit → HasMoreFactsThan self.old.problem max_facts }
+        ensures full { result ≡ Err Stop.Limit → max_facts ≤ length self.new.facts }
     {
         self.well_formed();
         let Some(hand) = self.queue.turn(self.facts.as_slice())? else {

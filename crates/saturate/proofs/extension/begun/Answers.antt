@@ -12,6 +12,7 @@ returns-in-Some c = λ served entered.
     record {
       grows = s;
       limit = c.begin_more.ensures.limit;
+      full = c.begin_more.ensures.full;
       drawn = on_ok_weaker c.begin_more.result (λ given. record {
         grows = s;
         given = given;
@@ -23,6 +24,7 @@ pub returns-in-None : goal.returns-in-None
 returns-in-None c = λ served entered. record {
   grows = c.begin_again.ensures.grows;
   limit = c.begin_again.ensures.limit;
+  full = c.begin_again.ensures.full;
   drawn = on_ok_weaker c.begin_again.result (λ begun. record {
     grows = begun.grows;
     given = begun.given;

@@ -10,6 +10,7 @@ pub returns-then-len-self : goal.returns-then-len-self
 returns-then-len-self c = record {
   grows = grows_same c.requires.derived;
   limit = λ e. one_too_many c.args.self.now.problem.now c.args.facts.now c.args.fact _ c.args.self.now.max_facts c.requires.derived c.requires.birth (c.found_at_limit.ensures.not e) (omega (arith, c.if-len-self.true, c.len.ensures.value));
+  full = λ _. omega (arith, c.if-len-self.true, c.len.ensures.value);
   drawn = c.found_at_limit.ensures.there;
 }
 

@@ -20,6 +20,7 @@ returns c =
       within = few;
       few = not_more c.args.self.now.problem c.args.self.now.facts c.args.max_facts state.closure few;
       limit = λ e. absurd (no_refusal _ _ e);
+      full = λ e. absurd (no_refusal _ _ e);
       most = λ low. low;
       idle = λ _. (refl, no_refusal _ _);
     }
