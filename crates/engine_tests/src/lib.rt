@@ -34,6 +34,8 @@ mod listed_facts;
 #[cfg(test)]
 mod lists;
 #[cfg(test)]
+mod loops;
+#[cfg(test)]
 mod numbered;
 #[cfg(test)]
 mod numbers;

@@ -1,5 +1,5 @@
 -- What facts give, form by form.
-use Rattle.std.proofs.Common.{◌≡◌, ℕ, ◌+◌, ◌<◌, ◌≤◌, ⊎_elim, List, [], ◌∷◌, length, get_or, map, take, slice_get, Some, Ok, Contains, refl, ap, ap₂, subst, arith}
+use Rattle.std.proofs.Common.{◌≡◌, ℕ, ◌+◌, ◌<◌, ◌≤◌, ⊎_elim, inl, inr, List, [], ◌∷◌, length, get_or, take, slice_get, Option, Some, Ok, Contains, refl, ap, subst, arith}
 use Rattle.std.proofs.lemmas.Bool.Decides.{eqb_tells}
 use Rattle.std.proofs.lemmas.List.{take_all}
 use Rattle.std.proofs.lemmas.List.Elements.{Contains-get_or, Contains-push_cases}
@@ -8,31 +8,23 @@ use Rattle.normal_forms.specs.declared.forms.Form.{Form}
 use Rattle.facts.specs.declared.contexts.Context.{Context}
 use Rattle.facts.specs.declared.contexts.Context.TheVariants.{Expr}
 use Rattle.facts.specs.declared.contexts.Fact.{Fact}
-use Rattle.facts.specs.Closure.{Problem, IsContextBy, IsLoop, in_thing, in_itself, by_form, unsatisfiable, loop, handed_on, different}
+use Rattle.facts.specs.Closure.{Problem, IsContextBy, in_thing, in_itself, by_form, unsatisfiable, loop, handed_on, different}
 use Rattle.inference.specs.declared.rules.Rules.{Rules}
-use Rattle.inference.specs.Derivations.{Keeps, Derived, Grows}
+use Rattle.inference.specs.Derivations.{Derived, Grows}
 use Rattle.inference.specs.Draws.{Draws}
 use Rattle.inference.specs.Visits.{AreWithin}
 use Rattle.inference.specs.Entry.{LoopIsDrawn}
 use Rattle.inference.specs.Sameness.{AreDifferencesDrawn, IsHandedOn}
-use Rattle.inference.specs.Completeness.{AreAt, AreConcluded, IsContextAt, AllDrawn, DrawnAt, ForEach, IsEntered, Drawn, MeetEachOther, AreMet, AreMetBefore}
+use Rattle.inference.specs.Completeness.{AreConcluded, AreRedundant, IsContextAt, AllDrawn, DrawnAt, DrawnUpToRedundancy, ForEach, IsEntered, IsOwed, Drawn, MeetEachOther, AreMet, AreMetBefore}
 use Rattle.inference.proofs.Growth.{there_still}
+use Rattle.inference.proofs.Owing.{loops_still}
+pub use Rattle.inference.proofs.Places.{at_still}
 use Rattle.inference.proofs.Redundancy.{up_to_redundancy_still}
 use Rattle.inference.proofs.Lists.{Contains-from_slice_get, one_value, take_push}
 
 -- where nothing stops the work, what is drawn is there
 pub draws : {rules : Rules} {old new : Derived} {IsDrawn : Type 0} → Grows rules.problem.now rules.max_facts old new → IsDrawn → Draws rules old new (Ok tt) IsDrawn
 draws grows drawn = record { grows = grows; limit = λ e. absurd (cc); full = λ e. absurd (cc); drawn = drawn }
-
--- facts stay where they are
-pub at_still : (a b : List Fact) → Keeps a b → (numbers : List ℕ) (older : List Fact) → AreAt a numbers older → AreAt b numbers older
-at_still a b keeps [] [] e = refl
-at_still a b keeps [] (f ∷ fs) e = absurd (cc)
-at_still a b keeps (n ∷ ns) [] e = absurd (cc)
-at_still a b keeps (n ∷ ns) (f ∷ fs) e =
-    let here : slice_get a n ≡ Some f = cc in
-    let rest : map (slice_get a) ns ≡ map Some fs = cc in
-    ap₂ (λ x xs. x ∷ xs) (keeps n f here) (at_still a b keeps ns fs rest)
 
 -- a context is one still
 pub context_still : {k : Problem} {most : ℕ} {a b : Derived} → Grows k most a b → (numbers : List ℕ) (x : Context) → IsContextAt k a.facts numbers x → IsContextAt k b.facts numbers x
@@ -67,16 +59,27 @@ all_still s D forms all form there f d = there_still s f (all form there f d)
 pub concluded_still : {k : Problem} {most : ℕ} {a b : Derived} → Grows k most a b → (older : List Fact) → AreConcluded k older a.facts → AreConcluded k older b.facts
 concluded_still s older all = record { forms = all_still s _ _ all.forms; back = λ f b. there_still s f (all.back f b) }
 
--- what the forms give, owl:Nothing carried back, what is in each context, and what there is of individuals that are one are all that facts give
-pub drawn : (k : Problem) (older facts : List Fact) → AreConcluded k older facts → ((x : Context) → IsContextBy k older x → IsEntered k x facts)
-    → ((g : Fact) → older ≡ g ∷ [] → IsHandedOn k g facts) → (older ≡ [] → AreDifferencesDrawn k facts) → Drawn k older facts
-drawn k older facts all enter hand differ _ _ _ (in_thing {x = x} c) = (enter x c).top
-drawn k older facts all enter hand differ _ _ _ (in_itself {e = e} c) = (enter (Expr e) c).itself e refl
-drawn k older facts all enter hand differ _ _ _ (by_form {f = f} n form at gives) = all.forms form (Contains-from_slice_get k.forms n form at) f gives
-drawn k older facts all enter hand differ _ _ _ (unsatisfiable {f = f} b) = all.back f b
-drawn k older facts all enter hand differ _ _ _ (loop {f = f} x n form at l c) = (enter x c).loops form (Contains-from_slice_get k.forms n form at) f l
-drawn k _ facts all enter hand differ _ _ _ (handed_on {g = g} {f = f} n form at h) = hand g refl form (Contains-from_slice_get k.forms n form at) f h
-drawn k _ facts all enter hand differ _ _ _ (different n a b at same) = differ refl n a b at same
+-- what the forms give, owl:Nothing carried back, what is in each context, and what there is of individuals that are one are all that facts give,
+-- but for loops that are owed
+pub drawn : (k : Problem) (older : List Fact) (d : Derived) → ((form : Option ℕ) (f : Fact) → IsOwed k d f → AreRedundant k d older form f) → AreConcluded k older d.facts → ((x : Context) → IsContextBy k older x → IsEntered k x d)
+    → ((g : Fact) → older ≡ g ∷ [] → IsHandedOn k g d.facts) → (older ≡ [] → AreDifferencesDrawn k d.facts) → DrawnUpToRedundancy k older d
+drawn k older d owed all enter hand differ _ _ _ (in_thing {x = x} c) = inl ((enter x c).top)
+drawn k older d owed all enter hand differ _ _ _ (in_itself {e = e} c) = inl ((enter (Expr e) c).itself e refl)
+drawn k older d owed all enter hand differ _ _ _ (by_form {f = f} n form at gives) = inl (all.forms form (Contains-from_slice_get k.forms n form at) f gives)
+drawn k older d owed all enter hand differ _ _ _ (unsatisfiable {f = f} b) = inl (all.back f b)
+drawn k older d owed all enter hand differ _ _ _ (loop {f = f} x n form at l c) =
+    let there = Contains-from_slice_get k.forms n form at in
+    ⊎_elim (λ w. inl w) (λ entry. inr (owed (Some n) f (record { context = x; form = form; there = there; is_loop = l; entry = entry }))) ((enter x c).loops form there f l)
+drawn k _ d owed all enter hand differ _ _ _ (handed_on {g = g} {f = f} n form at h) = inl (hand g refl form (Contains-from_slice_get k.forms n form at) f h)
+drawn k _ d owed all enter hand differ _ _ _ (different n a b at same) = inl (differ refl n a b at same)
+
+-- two facts make no context one, and hand nothing on
+pub drawn_by_two : (k : Problem) (g h : Fact) (facts : List Fact) → AreConcluded k (g ∷ h ∷ []) facts → Drawn k (g ∷ h ∷ []) facts
+drawn_by_two k g h facts all _ _ _ (in_thing c) = absurd c
+drawn_by_two k g h facts all _ _ _ (in_itself c) = absurd c
+drawn_by_two k g h facts all _ _ f (by_form n form at gives) = all.forms form (Contains-from_slice_get k.forms n form at) f gives
+drawn_by_two k g h facts all _ _ f (unsatisfiable b) = all.back f b
+drawn_by_two k g h facts all _ _ _ (loop x n form at l c) = absurd c
 
 -- one fact is no other
 pub one_in_hand : (P : Fact → Type 0) (f g : Fact) → f ∷ [] ≡ g ∷ [] → P f → P g
@@ -88,8 +91,8 @@ differences_still s drawn n a b at same = there_still s _ (drawn n a b at same)
 pub drawn_still : {k : Problem} {most : ℕ} {a b : Derived} → Grows k most a b → (older : List Fact) → Drawn k older a.facts → Drawn k older b.facts
 drawn_still s older drawn condition form f gives = there_still s f (drawn condition form f gives)
 
-pub entered_still : {k : Problem} {most : ℕ} {a b : Derived} → Grows k most a b → (x : Context) → IsEntered k x a.facts → IsEntered k x b.facts
-entered_still s x w = record { top = there_still s _ w.top; itself = λ e h. there_still s _ (w.itself e h); loops = all_still s _ _ w.loops }
+pub entered_still : {k : Problem} {most : ℕ} {a b : Derived} → Grows k most a b → (x : Context) → IsEntered k x a → IsEntered k x b
+entered_still s x w = record { top = there_still s _ w.top; itself = λ e h. there_still s _ (w.itself e h); loops = loops_still s x w.loops }
 
 pub met_still : {k : Problem} {most : ℕ} {a b : Derived} → Grows k most a b → (f g : Fact) → MeetEachOther k f g a → MeetEachOther k f g b
 met_still s f g w = record { first = up_to_redundancy_still s (f ∷ g ∷ []) w.first; second = up_to_redundancy_still s (g ∷ f ∷ []) w.second }
@@ -127,8 +130,8 @@ pub next_there : {k : Problem} {most : ℕ} {a b : Derived} → Grows k most a b
 next_there s numbers i within low = omega (arith, within _ (Contains-get_or numbers i 0 low), s.longer)
 
 -- the loops at the targets of the first so many facts, and of the next
-pub loops_more : {k : Problem} {most : ℕ} {a b d : Derived} (i : ℕ) → Grows k most a b → Grows k most b d → ((n : ℕ) → n < i → LoopIsDrawn k a.facts b.facts n) → LoopIsDrawn k b.facts d.facts i → (n : ℕ) → n < i + 1 → LoopIsDrawn k a.facts d.facts n
-loops_more {k} {b = b} i s t before here n low f x at target = ⊎_elim
-    (λ w. here f x (subst (λ (j : ℕ). slice_get b.facts j ≡ Some f) w.1 (s.facts n f at)) target)
-    (λ w. all_still t (IsLoop x) k.forms (before n (omega (arith, low, w.1)) f x at target))
+pub loops_more : {k : Problem} {most : ℕ} {a b d : Derived} (i : ℕ) → Grows k most a b → Grows k most b d → ((n : ℕ) → n < i → LoopIsDrawn k a.facts b n) → LoopIsDrawn k b.facts d i → (n : ℕ) → n < i + 1 → LoopIsDrawn k a.facts d n
+loops_more {k} {b = b} i s t before here n low f x at target top = ⊎_elim
+    (λ w. here f x (subst (λ (j : ℕ). slice_get b.facts j ≡ Some f) w.1 (s.facts n f at)) target (there_still s _ top))
+    (λ w. loops_still t x (before n (omega (arith, low, w.1)) f x at target top))
     (eqb_tells n i)

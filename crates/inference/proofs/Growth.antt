@@ -64,7 +64,7 @@ added k most d f r s birth new low = record {
 
 -- each fact with a reason is in the closure
 module _ {k : Problem} {d : Derived} (s : IsDerived k d) where
-  older_facts : (n : ℕ) (places : List ℕ) (older : List Fact) → map (slice_get (take n d.facts)) places ≡ map Some older
+  pub older_facts : (n : ℕ) (places : List ℕ) (older : List Fact) → map (slice_get (take n d.facts)) places ≡ map Some older
       → ((m : ℕ) (f : Fact) → m < n → slice_get d.facts m ≡ Some f → IsFact k f) → AreFacts k older
   older_facts n places [] e h = none
   older_facts n [] (f ∷ fs) e h = absurd (cc)

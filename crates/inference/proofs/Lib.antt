@@ -1,5 +1,7 @@
 pub mod Lists
 pub mod Growth
+pub mod Places
+pub mod Owing
 pub mod Redundancy
 pub mod Drawing
 pub mod Handing

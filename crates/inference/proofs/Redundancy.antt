@@ -14,6 +14,7 @@ use Rattle.inference.specs.Visits.{GoesOnAt, NoneNeeds}
 use Rattle.inference.specs.Completeness.{Drawn, DrawnUpToRedundancy, AreRedundant, EndsAbove, GoesOn, IsGivenBy, IsRedundantAsSecond}
 use Rattle.inference.proofs.Lists.{one_value}
 use Rattle.inference.proofs.Growth.{there_still}
+use Rattle.inference.proofs.Owing.{owed_still}
 
 -- all is drawn
 pub all_drawn : (k : Problem) (older : List Fact) (d : Derived) → Drawn k older d.facts → DrawnUpToRedundancy k older d
@@ -32,18 +33,18 @@ given_still s p f w = record {
   by = w.by;
 }
 
-pub redundant_still : {k : Problem} {most : ℕ} {a b : Derived} → Grows k most a b → (older : List Fact) (form : Option ℕ) → AreRedundant k a older form → AreRedundant k b older form
-redundant_still s [] form w = w
-redundant_still s (f ∷ []) form w = w
-redundant_still s (f ∷ g ∷ []) None w = w
-redundant_still s (f ∷ g ∷ []) (Some n) w = (w.0, w.1, record { goes_on = w.2.goes_on; property = w.2.property; below = w.2.below; given = given_still s w.2.property g w.2.given })
-redundant_still s (f ∷ g ∷ h ∷ more) form w = w
+pub redundant_still : {k : Problem} {most : ℕ} {a b : Derived} → Grows k most a b → (older : List Fact) (form : Option ℕ) (h : Fact) → AreRedundant k a older form h → AreRedundant k b older form h
+redundant_still s [] form h w = owed_still s h w
+redundant_still s (f ∷ []) form h w = owed_still s h w
+redundant_still s (f ∷ g ∷ []) None h w = w
+redundant_still s (f ∷ g ∷ []) (Some n) h w = (w.0, w.1, record { goes_on = w.2.goes_on; property = w.2.property; below = w.2.below; given = given_still s w.2.property g w.2.given })
+redundant_still s (f ∷ g ∷ h ∷ more) form _ w = w
 
 pub up_to_redundancy_still : {k : Problem} {most : ℕ} {a b : Derived} → Grows k most a b → (older : List Fact) → DrawnUpToRedundancy k older a → DrawnUpToRedundancy k older b
-up_to_redundancy_still s older drawn condition form f gives = ⊎_elim (λ c. inl (there_still s f c)) (λ w. inr (redundant_still s older form w)) (drawn condition form f gives)
+up_to_redundancy_still s older drawn condition form f gives = ⊎_elim (λ c. inl (there_still s f c)) (λ w. inr (redundant_still s older form f w)) (drawn condition form f gives)
 
 pub second_still : {k : Problem} {most : ℕ} {a b : Derived} → Grows k most a b → (g : Fact) → IsRedundantAsSecond k a g → IsRedundantAsSecond k b g
-second_still s g redundant f h condition form gives = redundant_still s (f ∷ g ∷ []) form (redundant f h condition form gives)
+second_still s g redundant f h condition form gives = redundant_still s (f ∷ g ∷ []) form h (redundant f h condition form gives)
 
 -- what a fact gives as the second premise is redundant, where it need not be one
 pub all_redundant : (k : Problem) (f g : Fact) (d : Derived) → IsRedundantAsSecond k d g → DrawnUpToRedundancy k (f ∷ g ∷ []) d

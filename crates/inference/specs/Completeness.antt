@@ -66,15 +66,30 @@ pub record AreConcluded (k : Problem) (older facts : List Fact) : Type 0 where
 abbrev pub IsInItself : Context → List Fact → Type 0
 IsInItself x facts = (e : ExprId) → x ≡ Expr e → Contains facts (In (class.Expr e) x)
 
+-- the fact of that number is an entry of x: it puts owl:Thing into x because x is a context
+pub record IsEntry (d : Derived) (x : Context) (n : ℕ) : Type 0 where
+  pub there : slice_get d.facts n ≡ Some (In thing x)
+  pub birth : Reason
+  pub born : slice_get d.births n ≡ Some birth
+  pub of_context : birth.condition ≡ 1
+
+-- x has an entry
+abbrev pub HasEntry : Derived → Context → Type 0
+HasEntry d x = (n : ℕ) × IsEntry d x n
+
+-- the loops at x are there, or x has an entry: they are drawn when that is served
+abbrev pub AreLoopsDrawn : Problem → Context → Derived → Type 0
+AreLoopsDrawn k x d = (form : Form) → Contains k.forms form → (f : Fact) → IsLoop x form f → Contains d.facts f ⊎ HasEntry d x
+
 -- what is in each context is in this one
-pub record IsEntered (k : Problem) (x : Context) (facts : List Fact) : Type 0 where
-  pub top : Contains facts (In thing x)
-  pub itself : IsInItself x facts
-  pub loops : AllDrawn (IsLoop x) k.forms facts
+pub record IsEntered (k : Problem) (x : Context) (d : Derived) : Type 0 where
+  pub top : Contains d.facts (In thing x)
+  pub itself : IsInItself x d.facts
+  pub loops : AreLoopsDrawn k x d
 
 -- what is in each context is in the first so many roots
-abbrev pub AreEntered : Problem → ℕ → List Fact → Type 0
-AreEntered k many facts = (x : Context) → Contains (take many k.roots) x → IsEntered k x facts
+abbrev pub AreEntered : Problem → ℕ → Derived → Type 0
+AreEntered k many d = (x : Context) → Contains (take many k.roots) x → IsEntered k x d
 
 -- what these facts give is there
 abbrev pub Drawn : Problem → List Fact → List Fact → Type 0
@@ -108,18 +123,28 @@ pub record IsRedundantFor (k : Problem) (d : Derived) (form : Form) (f : Fact) :
   pub below : EndsAbove k.forms property form
   pub given : IsGivenBy k d property f
 
--- what a form gives from two facts is redundant, where the second is redundant for it
-abbrev pub AreRedundant : Problem → Derived → List Fact → Option ℕ → Type 0
-AreRedundant k d (f ∷ g ∷ []) (Some n) = (form : Form) × (slice_get k.forms n ≡ Some form) × IsRedundantFor k d form g
-AreRedundant k d _ _ = ⊥
+-- the fact is a loop at a context that has an entry: it is drawn when that is served
+pub record IsOwed (k : Problem) (d : Derived) (f : Fact) : Type 0 where
+  pub context : Context
+  pub form : Form
+  pub there : Contains k.forms form
+  pub is_loop : IsLoop context form f
+  pub entry : HasEntry d context
+
+-- what a form gives from two facts is redundant, where the second is redundant for it; what is given from none or one is, where it is owed
+abbrev pub AreRedundant : Problem → Derived → List Fact → Option ℕ → Fact → Type 0
+AreRedundant k d [] form f = IsOwed k d f
+AreRedundant k d (g ∷ []) form f = IsOwed k d f
+AreRedundant k d (f ∷ g ∷ []) (Some n) h = (form : Form) × (slice_get k.forms n ≡ Some form) × IsRedundantFor k d form g
+AreRedundant k d _ _ _ = ⊥
 
 -- the fact need not be a second premise: all that it gives as one is redundant
 abbrev pub IsRedundantAsSecond : Problem → Derived → Fact → Type 0
-IsRedundantAsSecond k d g = (f h : Fact) (condition : ℕ) (form : Option ℕ) → Gives k condition form (f ∷ g ∷ []) h → AreRedundant k d (f ∷ g ∷ []) form
+IsRedundantAsSecond k d g = (f h : Fact) (condition : ℕ) (form : Option ℕ) → Gives k condition form (f ∷ g ∷ []) h → AreRedundant k d (f ∷ g ∷ []) form h
 
 -- what these facts give is there, but for what is redundant
 abbrev pub DrawnUpToRedundancy : Problem → List Fact → Derived → Type 0
-DrawnUpToRedundancy k older d = (condition : ℕ) (form : Option ℕ) (f : Fact) → Gives k condition form older f → Contains d.facts f ⊎ AreRedundant k d older form
+DrawnUpToRedundancy k older d = (condition : ℕ) (form : Option ℕ) (f : Fact) → Gives k condition form older f → Contains d.facts f ⊎ AreRedundant k d older form f
 
 -- what two facts give is there or redundant, whichever is first
 pub record MeetEachOther (k : Problem) (f g : Fact) (d : Derived) : Type 0 where
@@ -146,9 +171,10 @@ AreMetBehind k f old numbers new = ForEach (λ g. DrawnUpToRedundancy k (g ∷ f
 abbrev pub IsServed : List Fact → List ℕ → Fact → Type 0
 IsServed facts numbers f = (n : ℕ) × Contains numbers n × (slice_get facts n ≡ Some f)
 
--- what served facts give is there, but for what is redundant
-abbrev pub IsCompleteUpToRedundancy : Problem → Derived → List ℕ → Type 0
-IsCompleteUpToRedundancy k d served = (older : List Fact) → AllByRecursion (IsServed d.facts served) older → DrawnUpToRedundancy k older d
+-- what served facts give is there, but for what is redundant, and so are the loops at contexts whose entry was served
+pub record IsCompleteUpToRedundancy (k : Problem) (d : Derived) (served : List ℕ) : Type 0 where
+  pub given : (older : List Fact) → AllByRecursion (IsServed d.facts served) older → DrawnUpToRedundancy k older d
+  pub loops : (x : Context) (n : ℕ) → Contains served n → IsEntry d x n → AllDrawn (IsLoop x) k.forms d.facts
 
 -- the facts are exactly the closure
 abbrev pub IsClosure : Problem → List Fact → Type 0

@@ -1,5 +1,5 @@
 -- What a fact meets of those that the index lists.
-use Rattle.std.specs.Prelude.{◌≡◌, ℕ, List, [], ◌∷◌, slice_get, Some}
+use Rattle.std.specs.Prelude.{◌≡◌, ℕ, List, slice_get, Some}
 use Rattle.std.specs.List.{Contains}
 use Rattle.facts.specs.declared.contexts.Context.{Context}
 use Rattle.facts.specs.declared.contexts.Fact.{Fact}
@@ -9,7 +9,8 @@ use Rattle.indexes.specs.declared.index.Index.{Index}
 use Rattle.indexes.specs.Contexts.{at_context}
 use Rattle.indexes.specs.FactIndex.{IsIn, IsFrom, IsInto}
 use Rattle.inference.specs.Derivations.{Derived}
-use Rattle.inference.specs.Completeness.{AreMet, AreMetBefore, AreMetBehind, Drawn}
+use Rattle.inference.specs.Completeness.{AreMet, AreMetBefore, AreMetBehind}
+use Rattle.inference.specs.Entry.{IsDrawnAlone}
 
 -- what is listed is a fact: a class in the context, which fillers are too, an edge from it, or one into it
 pub record IsWithin (facts : List Fact) (index : Index) : Type 0 where
@@ -30,7 +31,7 @@ AllListedAreMet k (Edge x r y) old index new =
     × AreMetBefore k (Edge x r y) old (at_context index.second_premises y) new
     × AreMetBehind k (Edge x r y) old (at_context index.into x) new
 
--- what the fact gives is there or redundant: alone, and with those that the index lists for it
-pub record HasServed (k : Problem) (f : Fact) (old : List Fact) (index : Index) (new : Derived) : Type 0 where
-  pub alone : Drawn k (f ∷ []) new.facts
-  pub met : AllListedAreMet k f old index new
+-- what the fact of that number gives is there or redundant: alone, and with those that the index lists for it
+pub record HasServed (k : Problem) (n : ℕ) (f : Fact) (old : Derived) (index : Index) (new : Derived) : Type 0 where
+  pub alone : IsDrawnAlone k n f old new
+  pub met : AllListedAreMet k f old.facts index new

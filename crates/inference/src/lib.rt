@@ -2,6 +2,7 @@
 #![tactic(auto)]
 
 mod conclusions;
+mod entries;
 mod joins;
 mod known_facts;
 mod pairing;

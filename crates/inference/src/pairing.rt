@@ -457,7 +457,7 @@ impl Rules<'_> {
         requires hand { slice_get facts.old.facts hand ≡ Some fact }
         requires index { IsWithin facts.old.facts index.now }
         requires second { is_second ≡ false → IsRedundantAsSecond self.now.problem.now facts.old fact }
-        ensures { Draws self.now facts.old facts.new result (HasServed self.now.problem.now fact facts.old.facts index.now facts.new) }
+        ensures { Draws self.now facts.old facts.new result (HasServed self.now.problem.now hand fact facts.old index.now facts.new) }
     {
         self.draw_alone(facts, hand, fact)?;
         self.meet_listed(facts, index, hand, fact, is_second)?;

@@ -6,10 +6,10 @@ ghost use Rattle.inference.specs.Derivations.{IsDerived};
 ghost use Rattle.property_closure.specs.PropertyClosures.{Has};
 ghost use Rattle.inference.specs.PropertyClosures.{IsClosureOf, IsClosureOf-prop};
 ghost use Rattle.inference.specs.Joins.{AreJoins, AreJoins-prop};
-ghost use Rattle.inference.specs.Completeness.{AreAt, AreEntered, IsContextAt, AllDrawn, AreConcluded, DrawnAt, AreDrawnFrom, AreDrawn, IsDrawnFrom, IsEntered, IsInItself, Drawn};
+ghost use Rattle.inference.specs.Completeness.{AreAt, AreEntered, IsContextAt, AllDrawn, AreConcluded, DrawnAt, DrawnUpToRedundancy, AreDrawnFrom, AreDrawn, IsDrawnFrom, IsEntered, IsInItself};
 ghost use Rattle.inference.specs.Visits.{AllChainsDrawn, AreVisited};
 ghost use Rattle.inference.specs.Sameness.{AreGroupsOf, AreGroupsOf-prop};
-ghost use Rattle.inference.specs.Entry.{HasBegun, LoopIsDrawn, LoopsAreDrawn};
+ghost use Rattle.inference.specs.Entry.{HasBegun, IsDrawnAlone, LoopIsDrawn, LoopsAreDrawn};
 
 use crate::conclusions::{THING, carried_back, conclusion, condition_of, loop_at};
 use crate::joins::Joins;
@@ -235,7 +235,7 @@ impl Rules<'_> {
     }
 
     /// Adds the loops of reflexive properties at a context.
-    fn draw_loops(
+    pub(crate) fn draw_loops(
         &self,
         facts: &mut KnownFacts,
         context: Context,
@@ -269,59 +269,60 @@ impl Rules<'_> {
         Ok(())
     }
 
-    /// Adds what is in each context to one that the facts make a context.
+    /// Adds what is in each context to one that the facts make a context, but for the loops that are drawn when its entry is served.
     fn enter(&self, facts: &mut KnownFacts, context: Context, numbers: &[u32]) -> Result<(), Stop>
         requires derived { IsDerived self.now.problem.now facts.old }
         requires context { IsContextAt self.now.problem.now facts.old.facts numbers.now context }
-        ensures { Draws self.now facts.old facts.new result (IsEntered self.now.problem.now context facts.new.facts) }
+        ensures { Draws self.now facts.old facts.new result (IsEntered self.now.problem.now context facts.new) }
     {
         let top = Fact::In(THING, context);
         self.add(facts, top, 1, numbers, None)?;
         self.enter_itself(facts, context, numbers)?;
-        self.draw_loops(facts, context, numbers)?;
+        self.draw_missing_loops(facts, context, numbers)?;
         Ok(())
     }
 
-    /// Adds what is there with no fact, where what is in each context is in the first so many roots already.
+    /// Adds what is there with no fact, where what is in each context is in the first so many roots already. Roots are entered first, so
+    /// that each has an entry.
     pub fn begin_more(&self, facts: &mut KnownFacts, entered: usize) -> Result<(), Stop>
         requires derived { IsDerived self.now.problem.now facts.old }
-        requires entered { AreEntered self.now.problem.now entered facts.old.facts }
-        ensures { Draws self.now facts.old facts.new result (Drawn self.now.problem.now [] facts.new.facts) }
+        requires entered { AreEntered self.now.problem.now entered facts.old }
+        ensures { Draws self.now facts.old facts.new result (DrawnUpToRedundancy self.now.problem.now [] facts.new) }
     {
-        self.draw(facts, &[], &[])?;
-        self.draw_different(facts)?;
         let roots = self.problem.roots();
         for number in entered..roots.len() {
             self.enter(facts, roots[number], &[])?;
         }
+        self.draw(facts, &[], &[])?;
+        self.draw_different(facts)?;
         Ok(())
     }
 
     /// Adds what is there with no fact.
     pub fn begin(&self, facts: &mut KnownFacts) -> Result<(), Stop>
         requires derived { IsDerived self.now.problem.now facts.old }
-        ensures { Draws self.now facts.old facts.new result (Drawn self.now.problem.now [] facts.new.facts) }
+        ensures { Draws self.now facts.old facts.new result (DrawnUpToRedundancy self.now.problem.now [] facts.new) }
     {
         self.begin_more(facts, 0)
     }
 
-    /// Adds the loops of reflexive properties at the target of the fact of that number, where it is an edge.
+    /// Adds the loops of reflexive properties at the target of the fact of that number, where it is an edge and its target has no entry.
     fn draw_target(&self, facts: &mut KnownFacts, number: u32) -> Result<(), Stop>
         requires derived { IsDerived self.now.problem.now facts.old }
         requires number { number < length facts.old.facts }
-        ensures { Draws self.now facts.old facts.new result (LoopIsDrawn self.now.problem.now facts.old.facts facts.new.facts number) }
+        ensures { Draws self.now facts.old facts.new result (LoopIsDrawn self.now.problem.now facts.old.facts facts.new number) }
     {
         let fact = facts.get(number);
         if let Fact::Edge(_, _, target) = fact {
-            self.draw_loops(facts, target, &[number])?;
+            self.draw_missing_loops(facts, target, &[number])?;
         }
         Ok(())
     }
 
-    /// Adds the loops of reflexive properties at the targets of the edges.
+    /// Adds the loops of reflexive properties at the targets of the edges that have no entry.
     fn draw_targets(&self, facts: &mut KnownFacts) -> Result<(), Stop>
         requires { IsDerived self.now.problem.now facts.old }
-        ensures { Draws self.now facts.old facts.new result (LoopsAreDrawn self.now.problem.now facts.old.facts facts.new.facts) }
+        ensures { Draws self.now facts.old facts.new result (LoopsAreDrawn self.now.problem.now facts.old.facts facts.new) }
     {
         for number in 0..facts.len() {
             self.draw_target(facts, number as u32)?;
@@ -329,7 +330,7 @@ impl Rules<'_> {
         Ok(())
     }
 
-    /// Adds what is there at once where facts are there already: what is there with no fact, and loops at their targets.
+    /// Adds what is there at once where facts are there already: what is there with no fact, and loops at targets that have no entry.
     pub fn begin_again(&self, facts: &mut KnownFacts) -> Result<(), Stop>
         requires derived { IsDerived self.now.problem.now facts.old }
         ensures { Draws self.now facts.old facts.new result (HasBegun self.now.problem.now self.now.max_facts facts.old facts.new) }
@@ -339,7 +340,7 @@ impl Rules<'_> {
         Ok(())
     }
 
-    /// Adds what the fact of that number gives alone.
+    /// Adds what the fact of that number gives alone: an edge its target as a context, the entry of a context the loops at it.
     pub(crate) fn draw_alone(
         &self,
         facts: &mut KnownFacts,
@@ -348,12 +349,13 @@ impl Rules<'_> {
     ) -> Result<(), Stop>
         requires derived { IsDerived self.now.problem.now facts.old }
         requires hand { slice_get facts.old.facts hand ≡ Some fact }
-        ensures { Draws self.now facts.old facts.new result (Drawn self.now.problem.now (fact ∷ []) facts.new.facts) }
+        ensures { Draws self.now facts.old facts.new result (IsDrawnAlone self.now.problem.now hand fact facts.old facts.new) }
     {
         self.draw(facts, &[hand], &[fact])?;
         self.hand_on(facts, hand, fact)?;
-        if let Fact::Edge(_, _, target) = fact {
-            self.enter(facts, target, &[hand])?;
+        match fact {
+            Fact::In(class, context) => self.draw_owed_loops(facts, hand, class, context)?,
+            Fact::Edge(_, _, target) => self.enter(facts, target, &[hand])?,
         }
         Ok(())
     }

@@ -15,7 +15,9 @@ use Rattle.indexes.specs.declared.keys.Key.{Key}
 use Rattle.facts.specs.declared.contexts.Context.{Context}
 use Rattle.facts.specs.declared.contexts.Context.TheVariants.{Expr, Individual}
 use Rattle.facts.specs.declared.contexts.Fact.TheVariants.{Edge}
-use Rattle.indexes.specs.Keys.{class_key, property_key, individual_key, by_alone, by_first, by_filler, by_chain, by_plain, by_linked_first, by_linked_second, by_denied}
+use Rattle.facts.specs.Closure.{thing}
+use Rattle.indexes.specs.declared.keys.Key.TheVariants.{Whole}
+use Rattle.indexes.specs.Keys.{class_key, property_key, individual_key, by_kind, by_alone, by_first, by_filler, by_chain, by_plain, by_linked_first, by_linked_second, by_denied}
 use Rattle.indexes.specs.FormsUnderKeys.{IsUnder}
 use Rattle.saturate.specs.Requests.{BeginsWith, Denies, HasForm, NamesAbove, NamesClass, NamesIndividual}
 use Rattle.inference.proofs.Lists.{Contains-from_slice_get, slice_get-from_Contains}
@@ -85,6 +87,21 @@ module _ (c : Class2) where
   first (N11 _ _) e = absurd (none-some _ e)
   first (N12 _ _ _) e = absurd (none-some _ e)
 
+  -- a form that makes a property reflexive names owl:Thing
+  pub loops : (form : Form) → c ≡ thing → by_kind form ≡ Some (Whole 1) → NamesClass form c
+  loops (N7 r) is e = is
+  loops (N1 _ _) is e = absurd (none-some _ e)
+  loops (N2 _ _ _) is e = absurd (none-some _ e)
+  loops (N3 _ _ _) is e = absurd (none-some _ e)
+  loops (N4 _ _ _) is e = absurd (none-some _ e)
+  loops (N5 _ _) is e = absurd (none-some _ e)
+  loops (N6 _ _ _) is e = absurd (none-some _ e)
+  loops (N8 _ _) is e = absurd (cc)
+  loops (N9 _ _ _) is e = absurd (cc)
+  loops (N10 _ _) is e = absurd (none-some _ e)
+  loops (N11 _ _) is e = absurd (cc)
+  loops (N12 _ _ _) is e = absurd (none-some _ e)
+
   pub filler : (form : Form) → by_filler form ≡ Some (class_key c) → NamesClass form c
   filler (N4 r a b) e = class_of a c e
   filler (N1 _ _) e = absurd (none-some _ e)
@@ -99,14 +116,14 @@ module _ (c : Class2) where
   filler (N11 _ _) e = absurd (none-some _ e)
   filler (N12 _ _ _) e = absurd (none-some _ e)
 
-  key : (form : Form) → NamesClass form c → (by_alone form ≡ Some (class_key c)) ⊎ ((by_first form ≡ Some (class_key c)) ⊎ (by_filler form ≡ Some (class_key c)))
+  key : (form : Form) → NamesClass form c → (by_alone form ≡ Some (class_key c)) ⊎ ((by_first form ≡ Some (class_key c)) ⊎ ((by_filler form ≡ Some (class_key c)) ⊎ ((c ≡ thing) × (by_kind form ≡ Some (Whole 1)))))
   key (N1 a b) h = inl (ap (λ d. Some (class_key d)) (sym h))
   key (N2 a b d) h = inr (inl (ap (λ d. Some (class_key d)) (sym h)))
   key (N3 a r b) h = inl (ap (λ d. Some (class_key d)) (sym h))
-  key (N4 r a b) h = inr (inr (ap (λ d. Some (class_key d)) (sym h)))
+  key (N4 r a b) h = inr (inr (inl (ap (λ d. Some (class_key d)) (sym h))))
   key (N5 _ _) h = absurd h
   key (N6 _ _ _) h = absurd h
-  key (N7 _) h = absurd h
+  key (N7 _) h = inr (inr (inr (h, refl)))
   key (N8 _ _) h = absurd h
   key (N9 _ _ _) h = absurd h
   key (N10 _ _) h = absurd h
@@ -114,11 +131,11 @@ module _ (c : Class2) where
   key (N12 _ _ _) h = absurd h
 
   -- where none is under one of the keys none names the class
-  pub not_named : (added : List Form) → ((n : ℕ) → IsUnder by_alone added (class_key c) n → ⊥) → ((n : ℕ) → IsUnder by_first added (class_key c) n → ⊥) → ((n : ℕ) → IsUnder by_filler added (class_key c) n → ⊥) → HasForm (λ form. NamesClass form c) added → ⊥
-  not_named added no_alone no_first no_filler named =
+  pub not_named : (added : List Form) → ((n : ℕ) → IsUnder by_alone added (class_key c) n → ⊥) → ((n : ℕ) → IsUnder by_first added (class_key c) n → ⊥) → ((n : ℕ) → IsUnder by_filler added (class_key c) n → ⊥) → (c ≡ thing → (n : ℕ) → IsUnder by_kind added (Whole 1) n → ⊥) → HasForm (λ form. NamesClass form c) added → ⊥
+  not_named added no_alone no_first no_filler no_loops named =
       ⊎_elim
       (none_under by_alone (class_key c) added no_alone named.0 named.1)
-      (λ w. ⊎_elim (none_under by_first (class_key c) added no_first named.0 named.1) (none_under by_filler (class_key c) added no_filler named.0 named.1) w)
+      (λ w. ⊎_elim (none_under by_first (class_key c) added no_first named.0 named.1) (λ v. ⊎_elim (none_under by_filler (class_key c) added no_filler named.0 named.1) (λ u. none_under by_kind (Whole 1) added (no_loops u.0) named.0 named.1 u.1) v) w)
       (key named.0 named.2)
 
 -- ---- properties

@@ -1,5 +1,6 @@
 -- What holds of more forms and roots.
 use Rattle.std.proofs.Common.{◌≡◌, ℕ, zero, suc, ◌<◌, ◌≤◌, ◌⊎◌, inl, inr, ⊎_elim, List, [], ◌∷◌, ◌++◌, length, take, drop, slice_get, Some, None, Option, Contains, refl, sym, ap, ap₂, ◌∙◌, subst, arith}
+use Rattle.std.specs.List.{AllByRecursion}
 use Rattle.std.proofs.lemmas.List.{take-append-drop}
 use Rattle.std.proofs.lemmas.List.Elements.{Contains-append_left}
 use Rattle.std.proofs.lemmas.Option.{none-some, same_Some}
@@ -13,18 +14,19 @@ use Rattle.facts.specs.declared.contexts.Context.{Context}
 use Rattle.facts.specs.declared.contexts.Context.TheVariants.{Individual}
 use Rattle.facts.specs.declared.contexts.Fact.{Fact}
 use Rattle.facts.specs.declared.contexts.Fact.TheVariants.{In, Edge}
-use Rattle.facts.specs.Closure.{Problem, IsContextBy, FromOne, FromTwo, Concludes, AreSame, HandsOn, Links, Gives, in_thing, in_itself, by_form, unsatisfiable, loop, handed_on, different}
+use Rattle.facts.specs.Closure.{Problem, IsContextBy, FromOne, FromTwo, Concludes, AreSame, HandsOn, Links, IsLoop, Gives, thing, in_thing, in_itself, by_form, unsatisfiable, loop, handed_on, different}
 use Rattle.facts.specs.Births.{Reason}
 use Rattle.facts.proofs.Premises.{no_three}
 use Rattle.saturate.specs.Requests.{Asks, IsAskedAnew, IsNew, IsOneOf}
 use Rattle.inference.specs.Derivations.{Derived, IsDerived, Grows, Keeps}
 use Rattle.saturate.specs.Growth.{with_more, KeepsServed}
 use Rattle.saturate.specs.GoingOn.{IsBegun}
-use Rattle.inference.specs.Completeness.{IsCompleteUpToRedundancy, IsServed, AreRedundant, EndsAbove, GoesOn}
+use Rattle.inference.specs.Completeness.{AllDrawn, DrawnUpToRedundancy, IsCompleteUpToRedundancy, IsEntry, IsOwed, IsServed, AreRedundant, EndsAbove, GoesOn}
 use Rattle.saturate.proofs.EqualForms.{is_there}
 use Rattle.inference.proofs.Lists.{Contains-from_slice_get, slice_get-from_Contains}
 use Rattle.inference.proofs.Growth.{there_still}
 use Rattle.inference.proofs.Redundancy.{redundant_still}
+use Rattle.inference.proofs.Owing.{class_is_not_owed, entry_before, owed_still}
 use Rattle.saturate.specs.State.{IsUnderWay}
 use Rattle.saturate.specs.IndexedFacts.{ListsFacts, ListsServed}
 use Rattle.saturate.specs.Turns.{Queued, option_list}
@@ -277,9 +279,9 @@ module _ (k : Problem) (forms : List Form) (roots : List Context) where
   ends_more p (N12 _ _ _) low = low
 
   -- what is redundant by a form is redundant by each that is equal to it
-  pub redundant_more : (d : Derived) (g h : Fact) (m n : ℕ) (form : Form) → slice_get k.forms m ≡ Some form → slice_get (k.forms ++ forms) n ≡ Some form
-      → AreRedundant k d (g ∷ h ∷ []) (Some m) → AreRedundant (with_more k forms roots) d (g ∷ h ∷ []) (Some n)
-  redundant_more d g h m n form before at w = (
+  pub redundant_more : (d : Derived) (g h f : Fact) (m n : ℕ) (form : Form) → slice_get k.forms m ≡ Some form → slice_get (k.forms ++ forms) n ≡ Some form
+      → AreRedundant k d (g ∷ h ∷ []) (Some m) f → AreRedundant (with_more k forms roots) d (g ∷ h ∷ []) (Some n) f
+  redundant_more d g h f m n form before at w = (
     w.0,
     at ∙ sym before ∙ w.1,
     record {
@@ -298,20 +300,28 @@ module _ (k : Problem) (forms : List Form) (roots : List Context) where
     },
   )
 
+  -- what is owed is owed still
+  pub owed_more : (d : Derived) (f : Fact) → IsOwed k d f → IsOwed (with_more k forms roots) d f
+  owed_more d f w = record { context = w.context; form = w.form; there = Contains-append_left k.forms forms w.form w.there; is_loop = w.is_loop; entry = w.entry }
+
   -- ---- so what served facts give is there still
 
   module _ {most : ℕ} {old new : Derived} (served : List ℕ) (s : IsBegun (with_more k forms roots) most served old new)
-      (within : (n : ℕ) → Contains served n → n < length old.facts) (complete : IsCompleteUpToRedundancy k old served) (now : List ℕ) (keeps : KeepsServed k.forms (k.forms ++ forms) old.facts served now) where
+      (derived : IsDerived k old) (within : (n : ℕ) → Contains served n → n < length old.facts) (complete : IsCompleteUpToRedundancy k old served) (now : List ℕ) (keeps : KeepsServed k.forms (k.forms ++ forms) old.facts served now) where
     was_served : (f : Fact) → IsServed new.facts now f → (n : ℕ) × Contains served n × (slice_get old.facts n ≡ Some f) × Unasked f
     was_served f w =
         let before = (keeps w.0).0 w.1 in
         let at = was_there s.grows w.0 f (within w.0 before.0) w.2 in
         (w.0, before.0, at, λ asked. before.1 (f, at, asked))
 
-    alone : (g f : Fact) {c : ℕ} {o : Option ℕ} → IsServed old.facts served g → Gives k c o (g ∷ []) f → Contains new.facts f
-    alone g f {c} {o} w gives = ⊎_elim (λ there. there_still s.grows f there) (λ redundant. absurd redundant) (complete (g ∷ []) (w, tt) c o f gives)
+    alone : (g f : Fact) {c : ℕ} {o : Option ℕ} → IsServed old.facts served g → Gives k c o (g ∷ []) f → Contains new.facts f ⊎ IsOwed (with_more k forms roots) new f
+    alone g f {c} {o} w gives = ⊎_elim (λ there. inl (there_still s.grows f there)) (λ owed. inr (owed_still s.grows f (owed_more old f owed))) (complete.given (g ∷ []) (w, tt) c o f gives)
 
-    one : (g f : Fact) {c : ℕ} {o : Option ℕ} → IsServed new.facts now g → Gives (with_more k forms roots) c o (g ∷ []) f → Contains new.facts f
+    -- a context that a served fact makes one has owl:Thing in it
+    top_there : (g : Fact) (x : Context) → IsServed old.facts served g → IsContextBy k (g ∷ []) x → Contains old.facts (In thing x)
+    top_there g x w is = ⊎_elim (λ there. there) (λ owed. absurd (class_is_not_owed k old thing x owed)) (complete.given (g ∷ []) (w, tt) 1 None (In thing x) (in_thing is))
+
+    one : (g f : Fact) {c : ℕ} {o : Option ℕ} → IsServed new.facts now g → Gives (with_more k forms roots) c o (g ∷ []) f → Contains new.facts f ⊎ IsOwed (with_more k forms roots) new f
     one g f w (in_thing c) = let v = was_served g w in alone g f (v.0, v.1, v.2) (in_thing c)
     one g f w (in_itself c) = let v = was_served g w in alone g f (v.0, v.1, v.2) (in_itself c)
     one g f w (by_form n form at gives) =
@@ -327,16 +337,22 @@ module _ (k : Problem) (forms : List Form) (roots : List Context) where
         (λ new. absurd (v.3 (form, new, asks_handed_on form on)))
         (λ before. alone g f (v.0, v.1, v.2) (handed_on before.0 form before.1 on))
         (new_or_there k.forms forms form (Contains-from_slice_get (k.forms ++ forms) n form at))
-    one g f w (loop x n form at l c) = let v = was_served g w in s.loops v.0 v.1 g x v.2 c form (Contains-from_slice_get (k.forms ++ forms) n form at) f l
+    one g f w (loop x n form at l c) =
+        let v = was_served g w in
+        let there = Contains-from_slice_get (k.forms ++ forms) n form at in
+        ⊎_elim
+        (λ drawn. inl drawn)
+        (λ entry. inr (record { context = x; form = form; there = there; is_loop = l; entry = entry }))
+        (s.loops v.0 v.1 g x v.2 c (top_there g x (v.0, v.1, v.2) c) form there f l)
 
     -- what two facts gave by a form is there still, or redundant still, also by an equal form
-    by_earlier : (g h f : Fact) (m n : ℕ) (form : Form) → IsServed old.facts served g → IsServed old.facts served h → slice_get k.forms m ≡ Some form → slice_get (k.forms ++ forms) n ≡ Some form → FromTwo k form g h f → Contains new.facts f ⊎ AreRedundant (with_more k forms roots) new (g ∷ h ∷ []) (Some n)
+    by_earlier : (g h f : Fact) (m n : ℕ) (form : Form) → IsServed old.facts served g → IsServed old.facts served h → slice_get k.forms m ≡ Some form → slice_get (k.forms ++ forms) n ≡ Some form → FromTwo k form g h f → Contains new.facts f ⊎ AreRedundant (with_more k forms roots) new (g ∷ h ∷ []) (Some n) f
     by_earlier g h f m n form w v before at gives = ⊎_elim
         (λ there. inl (there_still s.grows f there))
-        (λ redundant. inr (redundant_still s.grows (g ∷ h ∷ []) (Some n) (redundant_more old g h m n form before at redundant)))
-        (complete (g ∷ h ∷ []) (w, (v, tt)) _ (Some m) f (by_form m form before gives))
+        (λ redundant. inr (redundant_still s.grows (g ∷ h ∷ []) (Some n) f (redundant_more old g h f m n form before at redundant)))
+        (complete.given (g ∷ h ∷ []) (w, (v, tt)) _ (Some m) f (by_form m form before gives))
 
-    two : (g h f : Fact) {c : ℕ} {o : Option ℕ} → IsServed new.facts now g → IsServed new.facts now h → Gives (with_more k forms roots) c o (g ∷ h ∷ []) f → Contains new.facts f ⊎ AreRedundant (with_more k forms roots) new (g ∷ h ∷ []) o
+    two : (g h f : Fact) {c : ℕ} {o : Option ℕ} → IsServed new.facts now g → IsServed new.facts now h → Gives (with_more k forms roots) c o (g ∷ h ∷ []) f → Contains new.facts f ⊎ AreRedundant (with_more k forms roots) new (g ∷ h ∷ []) o f
     two g h _ w v (in_thing c) = absurd c
     two g h _ w v (in_itself c) = absurd c
     two g h f w v (by_form n form at gives) =
@@ -352,14 +368,41 @@ module _ (k : Problem) (forms : List Form) (roots : List Context) where
         ⊎_elim
         (λ there. inl (there_still s.grows f there))
         (λ redundant. absurd redundant)
-        (complete (g ∷ h ∷ []) ((a.0, a.1, a.2), ((b.0, b.1, b.2), tt)) _ None f (unsatisfiable back))
+        (complete.given (g ∷ h ∷ []) ((a.0, a.1, a.2), ((b.0, b.1, b.2), tt)) _ None f (unsatisfiable back))
     two g h f w v (loop x n form at l c) = absurd c
 
+    given_still : (older : List Fact) → AllByRecursion (IsServed new.facts now) older → DrawnUpToRedundancy (with_more k forms roots) older new
+    given_still [] all c o f gives = s.given c o f gives
+    given_still (g ∷ []) all c o f gives = one g f all.0 gives
+    given_still (g ∷ h ∷ []) all c o f gives = two g h f all.0 all.1.0 gives
+    given_still (g ∷ h ∷ i ∷ rest) all c o f gives = absurd (no_three gives)
+
+    -- a form that makes a property reflexive asks for owl:Thing
+    asks_loop : (form : Form) (x : Context) (f : Fact) → IsLoop x form f → Asks (k.forms ++ forms) form (In thing x)
+    asks_loop (N7 r) x f l = refl
+    asks_loop (N1 _ _) x f l = absurd l
+    asks_loop (N2 _ _ _) x f l = absurd l
+    asks_loop (N3 _ _ _) x f l = absurd l
+    asks_loop (N4 _ _ _) x f l = absurd l
+    asks_loop (N5 _ _) x f l = absurd l
+    asks_loop (N6 _ _ _) x f l = absurd l
+    asks_loop (N8 _ _) x f l = absurd l
+    asks_loop (N9 _ _ _) x f l = absurd l
+    asks_loop (N10 _ _) x f l = absurd l
+    asks_loop (N11 _ _) x f l = absurd l
+    asks_loop (N12 _ _ _) x f l = absurd l
+
+    loops_drawn : (x : Context) (n : ℕ) → Contains now n → IsEntry new x n → AllDrawn (IsLoop x) (k.forms ++ forms) new.facts
+    loops_drawn x n c e form there f l =
+        let before = (keeps n).0 c in
+        let was = entry_before (derived_more derived) s.grows x n (within n before.0) e in
+        ⊎_elim
+        (λ new. absurd (before.1 (In thing x, was.there, (form, new, asks_loop form x f l))))
+        (λ old. there_still s.grows f (complete.loops x n before.0 was form (Contains-from_slice_get k.forms old.0 form old.1) f l))
+        (new_or_there k.forms forms form there)
+
     pub complete_still : IsCompleteUpToRedundancy (with_more k forms roots) new now
-    complete_still [] all c o f gives = inl (s.given c o f gives)
-    complete_still (g ∷ []) all c o f gives = inl (one g f all.0 gives)
-    complete_still (g ∷ h ∷ []) all c o f gives = two g h f all.0 all.1.0 gives
-    complete_still (g ∷ h ∷ i ∷ rest) all c o f gives = absurd (no_three gives)
+    complete_still = record { given = given_still; loops = loops_drawn }
 
 -- ---- the state of what has grown
 
@@ -380,7 +423,7 @@ module _ (k : Problem) (forms : List Form) (roots : List Context) {j : Problem} 
     queued = queued;
     within = λ n c. omega (arith, s.within n ((keeps n).0 c).0, begun.grows.longer);
     complete = subst (λ (i : Problem). IsCompleteUpToRedundancy i new r.served) (sym same)
-        (complete_still k forms roots q.served (subst (λ (i : Problem). IsBegun i most q.served old new) same begun) s.within s.complete r.served
+        (complete_still k forms roots q.served (subst (λ (i : Problem). IsBegun i most q.served old new) same begun) s.derived s.within s.complete r.served
         (subst (λ (i : Problem). KeepsServed k.forms i.forms old.facts q.served r.served) same keeps));
   }
 

@@ -100,7 +100,7 @@ module _ {k : Problem} {d : Derived} (s : IsDerived k d) (complete : (f g : Fact
   by_chain n i (N11 _ _) e at on low joins f g h there places older are from gives = absurd on
   by_chain n i (N12 _ _ _) e at on low joins f g h there places older are from gives = absurd on
 
-  redundant_is_there : (n : ℕ) → ((m : ℕ) → m < n → Joins m) → (f g : Fact) (c : ℕ) (o : Option ℕ) (h : Fact) → Contains d.facts f → slice_get d.facts n ≡ Some g → Gives k c o (f ∷ g ∷ []) h → AreRedundant k d (f ∷ g ∷ []) o → Contains d.facts h
+  redundant_is_there : (n : ℕ) → ((m : ℕ) → m < n → Joins m) → (f g : Fact) (c : ℕ) (o : Option ℕ) (h : Fact) → Contains d.facts f → slice_get d.facts n ≡ Some g → Gives k c o (f ∷ g ∷ []) h → AreRedundant k d (f ∷ g ∷ []) o h → Contains d.facts h
   redundant_is_there n joins f g c None h there at gives w = absurd w
   redundant_is_there n joins f g c (Some i) h there at gives w =
       let given = w.2.given in

@@ -14,6 +14,7 @@ use Rattle.facts.specs.Closure.{Problem, AreFacts, given, none, more as more_fac
 use Rattle.inference.specs.declared.known_facts.Stop.TheVariants.{Limit}
 use Rattle.inference.specs.Derivations.{Derived, Grows}
 use Rattle.inference.specs.Completeness.{IsClosure, IsServed}
+use Rattle.inference.proofs.Owing.{loop_is_fact}
 use Rattle.inference.proofs.Lists.{Contains-from_slice_get, slice_get-from_Contains, keeps_push}
 use Rattle.saturate.specs.Turns.{Queued}
 use Rattle.saturate.specs.State.{Seen, AreBorn, Extends, IsUnderWay}
@@ -33,7 +34,10 @@ closed_state s born closure within once = record {
   born = born;
   within = within;
   once = once;
-  complete = λ older served condition form f gives. inl ((closure f).1 (given condition form older gives (facts older served)));
+  complete = record {
+    given = λ older served condition form f gives. inl ((closure f).1 (given condition form older gives (facts older served)));
+    loops = λ x n there entry form is f l. (closure f).1 (loop_is_fact born x n entry form is f l);
+  };
 }
   where
     facts : (older : List Fact) → AllByRecursion (IsServed s.facts s.served) older → AreFacts s.problem older

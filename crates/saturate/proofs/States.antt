@@ -4,14 +4,19 @@ use Rattle.std.specs.List.{AllByRecursion}
 use Rattle.std.proofs.lemmas.List.Elements.{Contains-push_cases}
 use Rattle.std.proofs.lemmas.Option.{none-some, slice_get_within, slice_get-get_or}
 use Rattle.facts.specs.declared.contexts.Fact.{Fact}
-use Rattle.facts.specs.Closure.{Problem, IsFact, AreFacts, given, none, more, in_thing, in_itself, by_form, unsatisfiable, loop, different}
+use Rattle.facts.specs.declared.contexts.Context.{Context}
+use Rattle.facts.specs.declared.contexts.Fact.TheVariants.{In}
+use Rattle.facts.specs.Closure.{Problem, IsFact, IsLoop, AreFacts, thing, given, none, more, in_thing, in_itself, by_form, unsatisfiable, loop, different}
 use Rattle.facts.proofs.Premises.{no_three}
 use Rattle.inference.specs.Derivations.{Derived, IsDerived, Grows, HasMoreFactsThan}
 use Rattle.saturate.specs.Turns.{Queued}
-use Rattle.inference.specs.Completeness.{IsServed, IsClosure, IsCompleteUpToRedundancy, Drawn, DrawnUpToRedundancy, MeetEachOther}
+use Rattle.inference.specs.Completeness.{AllDrawn, IsEntry, IsOwed, IsServed, IsClosure, IsCompleteUpToRedundancy, Drawn, DrawnUpToRedundancy, MeetEachOther}
+use Rattle.inference.specs.Entry.{IsDrawnAlone}
 use Rattle.saturate.specs.State.{IsUnderWay}
 use Rattle.inference.proofs.Lists.{one_value, slice_get_there, Contains-from_slice_get}
 use Rattle.inference.proofs.Growth.{sound}
+use Rattle.inference.proofs.Drawing.{all_still}
+use Rattle.inference.proofs.Owing.{entry_before}
 use Rattle.inference.proofs.Redundancy.{all_drawn, up_to_redundancy_still}
 use Rattle.saturate.proofs.Joining.{all_joined}
 
@@ -27,11 +32,17 @@ grown {k} {old = old} {new = new} {q = q} {r = r} s t low same = record {
   derived = t.derived;
   queued = omega (arith, low, t.longer);
   within = λ n c. omega (arith, within n c, t.longer);
-  complete = λ older served. up_to_redundancy_still t older (s.complete older (were older served));
+  complete = record {
+    given = λ older served. up_to_redundancy_still t older (s.complete.given older (were older served));
+    loops = λ x n c e. all_still t (IsLoop x) k.forms (s.complete.loops x n (were_served n c) (entry_before s.derived t x n (within n c) e));
+  };
 }
   where
+    were_served : (n : ℕ) → Contains r.served n → Contains q.served n
+    were_served n c = subst (λ (ns : List ℕ). Contains ns n) same c
+
     within : (n : ℕ) → Contains r.served n → n < length old.facts
-    within n c = s.within n (subst (λ (ns : List ℕ). Contains ns n) same c)
+    within n c = s.within n (were_served n c)
 
     were : (older : List Fact) → AllByRecursion (IsServed new.facts r.served) older → AllByRecursion (IsServed old.facts q.served) older
     were [] all = tt
@@ -39,7 +50,7 @@ grown {k} {old = old} {new = new} {q = q} {r = r} s t low same = record {
 
 -- a fact is served, since what it gives with others is there
 module _ {k : Problem} {most : ℕ} {old new : Derived} {q : Queued} (s : IsUnderWay k old q) (t : Grows k most old new) (n : ℕ) (f : Fact) (at : slice_get old.facts n ≡ Some f)
-    (alone : Drawn k (f ∷ []) new.facts)
+    (alone : IsDrawnAlone k n f old new)
     (met : (m : ℕ) → Contains (q.served ++ n ∷ []) m → (g : Fact) → slice_get old.facts m ≡ Some g → MeetEachOther k f g new) where
   within : (m : ℕ) → Contains (q.served ++ n ∷ []) m → m < length old.facts
   within m c = ⊎_elim (s.within m) (λ e. subst (λ (i : ℕ). i < length old.facts) e (slice_get_within old.facts n f at)) (Contains-push_cases q.served n m c)
@@ -53,26 +64,37 @@ module _ {k : Problem} {most : ℕ} {old new : Derived} {q : Queued} (s : IsUnde
       ⊎_elim (λ c. inl (w.0, c, before)) (λ e. inr (one_value _ f g at (subst (λ (i : ℕ). slice_get old.facts i ≡ Some g) (sym e) before))) (Contains-push_cases q.served n w.0 w.1)
 
   complete : (older : List Fact) → AllByRecursion (IsServed new.facts (q.served ++ n ∷ [])) older → DrawnUpToRedundancy k older new
-  complete [] all = up_to_redundancy_still t [] (s.complete [] tt)
+  complete [] all = up_to_redundancy_still t [] (s.complete.given [] tt)
   complete (g ∷ []) all = ⊎_elim
-      (λ w. up_to_redundancy_still t (g ∷ []) (s.complete (g ∷ []) (w, tt)))
-      (λ e. subst (λ (x : Fact). DrawnUpToRedundancy k (x ∷ []) new) e (all_drawn k (f ∷ []) new alone))
+      (λ w. up_to_redundancy_still t (g ∷ []) (s.complete.given (g ∷ []) (w, tt)))
+      (λ e. subst (λ (x : Fact). DrawnUpToRedundancy k (x ∷ []) new) e alone.given)
       (cases g all.0)
   complete (g ∷ h ∷ []) all = ⊎_elim
       (λ w. ⊎_elim
-      (λ v. up_to_redundancy_still t (g ∷ h ∷ []) (s.complete (g ∷ h ∷ []) (w, (v, tt))))
+      (λ v. up_to_redundancy_still t (g ∷ h ∷ []) (s.complete.given (g ∷ h ∷ []) (w, (v, tt))))
       (λ e. subst (λ (x : Fact). DrawnUpToRedundancy k (g ∷ x ∷ []) new) e (meets g all.0).second)
       (cases h all.1.0))
       (λ e. subst (λ (x : Fact). DrawnUpToRedundancy k (x ∷ h ∷ []) new) e (meets h all.1.0).first)
       (cases g all.0)
   complete (g ∷ h ∷ i ∷ rest) all = λ c form new gives. absurd (no_three gives)
 
+  loops : (x : Context) (m : ℕ) → Contains (q.served ++ n ∷ []) m → IsEntry new x m → AllDrawn (IsLoop x) k.forms new.facts
+  loops x m c e =
+      let before = entry_before s.derived t x m (within m c) e in
+      ⊎_elim
+      (λ there. all_still t (IsLoop x) k.forms (s.complete.loops x m there before))
+      (λ is. alone.loops x (subst (IsEntry old x) (sym is) before))
+      (Contains-push_cases q.served n m c)
+
   pub one_served : {r : Queued} → r.queued ≤ length old.facts → r.served ≡ q.served ++ n ∷ [] → IsUnderWay k new r
   one_served {r} low same = record {
     derived = t.derived;
     queued = omega (arith, low, t.longer);
     within = λ m c. omega (arith, within m (subst (λ (ns : List ℕ). Contains ns m) same c), t.longer);
-    complete = λ older served. complete older (subst (λ (ns : List ℕ). AllByRecursion (IsServed new.facts ns) older) same served);
+    complete = record {
+      given = λ older served. complete older (subst (λ (ns : List ℕ). AllByRecursion (IsServed new.facts ns) older) same served);
+      loops = λ x m c e. loops x m (subst (λ (ns : List ℕ). Contains ns m) same c) e;
+    };
   }
 
 -- where all are served the facts are the closure
@@ -82,14 +104,20 @@ module _ {k : Problem} {d : Derived} (ns : List ℕ) (derived : IsDerived k d) (
 
   -- what two give is there: what is redundant is given by others
   pairs : (f g : Fact) → Contains d.facts f → Contains d.facts g → DrawnUpToRedundancy k (f ∷ g ∷ []) d
-  pairs f g c e = complete_until (f ∷ g ∷ []) (served f c, (served g e, tt))
+  pairs f g c e = complete_until.given (f ∷ g ∷ []) (served f c, (served g e, tt))
 
   there : (f : Fact) → IsServed d.facts ns f → Contains d.facts f
   there f w = Contains-from_slice_get d.facts w.0 f w.2
 
+  -- a loop that is owed is there, since the entry of its context was served
+  owed_there : (f : Fact) → IsOwed k d f → Contains d.facts f
+  owed_there f w =
+      let (n, e) = w.entry in
+      complete_until.loops w.context n (all n (slice_get_within d.facts n (In thing w.context) e.there)) e w.form w.there f w.is_loop
+
   all_there : (older : List Fact) → AllByRecursion (IsServed d.facts ns) older → Drawn k older d.facts
-  all_there [] all c form f gives = ⊎_elim (λ w. w) (λ w. absurd w) (complete_until [] tt c form f gives)
-  all_there (g ∷ []) all c form f gives = ⊎_elim (λ w. w) (λ w. absurd w) (complete_until (g ∷ []) all c form f gives)
+  all_there [] all c form f gives = ⊎_elim (λ w. w) (owed_there f) (complete_until.given [] tt c form f gives)
+  all_there (g ∷ []) all c form f gives = ⊎_elim (λ w. w) (owed_there f) (complete_until.given (g ∷ []) all c form f gives)
   all_there (g ∷ h ∷ []) all c form f gives = all_joined derived pairs g h (there g all.0) (there h all.1.0) c form f gives
   all_there (g ∷ h ∷ i ∷ rest) all c form f gives = absurd (no_three gives)
 
@@ -129,7 +157,7 @@ module _ {k : Problem} (forms : k.forms ≡ []) (roots : k.roots ≡ []) where
     };
     queued = omega (arith, zero);
     within = λ n c. absurd (no_member q.served empty n c);
-    complete = complete;
+    complete = record { given = complete; loops = λ x n c e. absurd (no_member q.served empty n c) };
   }
     where
       complete : (older : List Fact) → AllByRecursion (IsServed d.facts q.served) older → DrawnUpToRedundancy k older d

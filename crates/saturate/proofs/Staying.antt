@@ -93,7 +93,7 @@ module _ (k : Problem) (forms : List Form) (roots : List Context) (leave : (form
   redundant_edge d z q v redundant f h _ _ (by_form n form at gives) = ⊎_elim
       (λ before.
       let m = slice_get-from_Contains k.forms form before in
-      redundant_more k forms roots d f (Edge z q v) m.0 n form m.1 at (redundant f h _ (Some m.0) (by_form m.0 form m.1 (two_still form f (Edge z q v) h gives))))
+      redundant_more k forms roots d f (Edge z q v) h m.0 n form m.1 at (redundant f h _ (Some m.0) (by_form m.0 form m.1 (two_still form f (Edge z q v) h gives))))
       (λ new. absurd (true≢false (sym (chain form f h z q v gives) ∙ leave form new)))
       (Contains-append_cases k.forms forms form (Contains-from_slice_get (k.forms ++ forms) n form at))
   redundant_edge d z q v redundant f h _ _ (unsatisfiable b) = absurd (redundant f h _ None (unsatisfiable b))
@@ -160,6 +160,6 @@ listed_then {k} {j} {d} {w} {m} {index} from roots is leave now keeps s =
     subst (λ (i : Problem). ListsFacts i d now m index) (sym is)
     (listed_by_more k (drop from j.forms) roots (added from j.forms leave) now (subst (λ (fs : List Form). KeepsServed k.forms fs d.facts w now) (ap (λ (i : Problem). i.forms) is) keeps) s)
 
-pub entered_then : {k j : Problem} {d : Derived} {served : List ℕ} (from : ℕ) (roots : List Context) → j ≡ with_more k (drop from j.forms) roots → LeaveProperties from j.forms → IsCompleteUpToRedundancy k d served → HasEntered j (length k.roots) served d.facts
+pub entered_then : {k j : Problem} {d : Derived} {served : List ℕ} (from : ℕ) (roots : List Context) → j ≡ with_more k (drop from j.forms) roots → LeaveProperties from j.forms → IsCompleteUpToRedundancy k d served → HasEntered j (length k.roots) served d
 entered_then {k} {j} {d} {served} from roots is leave complete =
-    subst (λ (i : Problem). HasEntered i (length k.roots) served d.facts) (sym is) (entered k (drop from j.forms) roots (added from j.forms leave) served complete)
+    subst (λ (i : Problem). HasEntered i (length k.roots) served d) (sym is) (entered k (drop from j.forms) roots (added from j.forms leave) served complete)

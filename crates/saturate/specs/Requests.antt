@@ -3,7 +3,7 @@ use Rattle.std.specs.Prelude.{◌≡◌, ◌⊎◌, ◌↔◌, ◌<◌, ℕ, Boo
 use Rattle.std.specs.List.{Contains}
 use Rattle.axioms.specs.declared.ids.IndId.{IndId}
 use Rattle.normal_forms.specs.declared.forms.Form.{Form}
-use Rattle.normal_forms.specs.declared.forms.Form.TheVariants.{N1, N2, N3, N4, N5, N6, N10, N12}
+use Rattle.normal_forms.specs.declared.forms.Form.TheVariants.{N1, N2, N3, N4, N5, N6, N7, N10, N12}
 use Rattle.normal_forms.specs.declared.forms.Class2.{Class2}
 use Rattle.normal_forms.specs.declared.forms.Class2.TheVariants.{Expr}
 use Rattle.number_sets.specs.Members.{has}
@@ -15,6 +15,7 @@ use Rattle.facts.specs.declared.contexts.Context.{Context}
 use Rattle.facts.specs.declared.contexts.Context.TheVariants.{Individual}
 use Rattle.facts.specs.declared.contexts.Fact.{Fact}
 use Rattle.facts.specs.declared.contexts.Fact.TheVariants.{In, Edge}
+use Rattle.facts.specs.Closure.{thing}
 use Rattle.inference.specs.PropertyClosures.{IsClosureOf}
 
 -- one of the two individuals
@@ -22,7 +23,8 @@ abbrev pub IsOneOf : IndId → IndId → Context → Type 0
 IsOneOf a b x = (x ≡ Individual a) ⊎ (x ≡ Individual b)
 
 -- the form names the class of the fact, or a property at or above that of the edge, or makes one of its individuals one with another, or denies
--- the edge: of two facts that a form needs one is enough
+-- the edge: of two facts that a form needs one is enough. One that makes a property reflexive asks for owl:Thing in a context: where that is
+-- its entry, it draws the loops there when it is served
 abbrev pub Asks : List Form → Form → Fact → Type 0
 Asks forms (N1 a b) (In c x) = c ≡ a
 Asks forms (N2 a b c) (In d x) = d ≡ a
@@ -30,17 +32,19 @@ Asks forms (N3 a r b) (In c x) = c ≡ a
 Asks forms (N4 r a b) (In c x) = c ≡ a
 Asks forms (N5 r s) (Edge x p y) = IsAtOrBelow forms p (Property r)
 Asks forms (N6 r s t) (Edge x p y) = IsAtOrBelow forms p r
+Asks forms (N7 r) (In c x) = c ≡ thing
 Asks forms (N10 a b) (In c x) = IsOneOf a b x
 Asks forms (N10 a b) (Edge x p y) = IsOneOf a b x ⊎ IsOneOf a b y
 Asks forms (N12 a r b) (Edge x p y) = (x ≡ Individual a) × (y ≡ Individual b) × IsAtOrBelow forms p (Property r)
 Asks forms _ _ = ⊥
 
--- the form names the class
+-- the form names the class, as one that makes a property reflexive names owl:Thing
 abbrev pub NamesClass : Form → Class2 → Type 0
 NamesClass (N1 a b) c = c ≡ a
 NamesClass (N2 a b d) c = c ≡ a
 NamesClass (N3 a r b) c = c ≡ a
 NamesClass (N4 r a b) c = c ≡ a
+NamesClass (N7 r) c = c ≡ thing
 NamesClass _ c = ⊥
 
 -- the form names the property, or one above it, as the lower of two or the first of a chain

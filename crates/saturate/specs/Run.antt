@@ -11,7 +11,7 @@ use Rattle.saturate.specs.State.{Seen, AreBorn, Extends}
 
 -- a state at any time: facts of the closure, each once and born of older ones, some of them served, each once; and what served facts
 -- give, or no fact is needed for, is there, or it is redundant: the conclusion that is owed comes by the older two edges that gave
--- its second
+-- its second, or is a loop at a context with an entry, and comes when that is served
 pub record IsState (s : Seen) : Type 0 where
   pub born : AreBorn s
   pub within : (n : ℕ) → Contains s.served n → n < length s.facts

@@ -4,7 +4,9 @@ ghost use Rattle.facts.specs.declared.contexts.Fact.TheVariants as the_facts;
 ghost use Rattle.normal_forms.specs.declared.forms.Form.{Form as Form2};
 ghost use Rattle.normal_forms.specs.declared.forms.PropId2.TheVariants as the_properties;
 ghost use Rattle.normal_forms.specs.Properties.{IsAtOrBelow};
-ghost use Rattle.indexes.specs.Keys.{by_filler, by_first, class_key};
+ghost use Rattle.facts.specs.Closure.{thing};
+ghost use Rattle.indexes.specs.declared.keys.Key.TheVariants.{Whole};
+ghost use Rattle.indexes.specs.Keys.{by_filler, by_first, by_kind, class_key};
 ghost use Rattle.property_closure.specs.PropertyClosures.{Has};
 ghost use Rattle.saturate.specs.Requests.{AreNamed, BeginsWith, Denies, HasForm, HasUnder, IsAsked, IsAskedUnder, IsSuchAt, IsUnaskedUnder, LacksUnder, NamesAbove, NamesClass, NamesIndividual};
 ghost use Rattle.inference.specs.PropertyClosures.{IsClosureOf};
@@ -36,12 +38,37 @@ fn asks_for_pairs(added: &IndexedProblem, class: Class2) -> bool
     added.begins_intersection(class) || is_used(added.with_filler(class))
 }
 
+/// Whether the class is `owl:Thing`.
+fn is_thing(class: Class2) -> bool
+    ensures { IsTrue result ↔ (class ≡ thing) }
+{
+    class == Class2::Expr(ExprId::THING)
+}
+
+/// Whether one of the added forms asks for the facts of a class because it makes a property reflexive: the class is `owl:Thing`.
+fn asks_for_loops(added: &IndexedProblem, class: Class2) -> bool
+    ensures yes { result ≡ true → HasForm (λ form. NamesClass form class) added.now.forms }
+    ensures no { result ≡ false → class ≡ thing → NoneUnder by_kind added.now.forms (Whole 1) }
+{
+    is_thing(class) && is_used(added.reflexive())
+}
+
+/// Whether one of the added forms asks for the facts of a class with others, or because it makes a property reflexive.
+fn asks_for_more(added: &IndexedProblem, class: Class2) -> bool
+    ensures yes { result ≡ true → HasForm (λ form. NamesClass form class) added.now.forms }
+    ensures first { result ≡ false → NoneUnder by_first added.now.forms (class_key class) }
+    ensures filler { result ≡ false → NoneUnder by_filler added.now.forms (class_key class) }
+    ensures loops { result ≡ false → class ≡ thing → NoneUnder by_kind added.now.forms (Whole 1) }
+{
+    asks_for_pairs(added, class) || asks_for_loops(added, class)
+}
+
 /// Whether one of the added forms asks for the facts of a class.
 fn asks_for_class(added: &IndexedProblem, class: Class2) -> bool
     ensures yes { result ≡ true → HasForm (λ form. NamesClass form class) added.now.forms }
     ensures no { result ≡ false → HasForm (λ form. NamesClass form class) added.now.forms → ⊥ }
 {
-    is_used(added.alone(class)) || asks_for_pairs(added, class)
+    is_used(added.alone(class)) || asks_for_more(added, class)
 }
 
 /// Of the expressions below the number whether one of the added forms asks for the facts of the class: a look at a bit is less than one

@@ -136,8 +136,8 @@ fn indexed(
 /// Adds what is there at once; where what is in each context is in the first so many roots, for those behind them alone.
 fn begun(rules: &Rules, facts: &mut KnownFacts, entered: Option<usize>) -> Result<(), Stop>
     requires derived { IsDerived rules.now.problem.now facts.old }
-    requires entered { (many : ℕ) → entered ≡ Some many → AreEntered rules.now.problem.now many facts.old.facts }
-    ensures { (served : List ℕ) → ((many : ℕ) → entered ≡ Some many → HasEntered rules.now.problem.now many served facts.old.facts) →
+    requires entered { (many : ℕ) → entered ≡ Some many → AreEntered rules.now.problem.now many facts.old }
+    ensures { (served : List ℕ) → ((many : ℕ) → entered ≡ Some many → HasEntered rules.now.problem.now many served facts.old) →
         Draws rules.now facts.old facts.new result (IsBegun rules.now.problem.now rules.now.max_facts served facts.old facts.new) }
 {
     match entered {
@@ -157,7 +157,7 @@ fn begun_again<W: WorkList>(
 ) -> Result<(), Memory>
     requires derived { IsDerived ground.now facts.old }
     requires queued { queue.old.queued ≤ length facts.old.facts }
-    requires entered { (many : ℕ) → entered ≡ Some many → HasEntered ground.now many queue.old.served facts.old.facts }
+    requires entered { (many : ℕ) → entered ≡ Some many → HasEntered ground.now many queue.old.served facts.old }
     ensures begun { OnOk result (IsBegun ground.now u32.MAX queue.old.served facts.old facts.new) }
     ensures queued { queue.new.queued ≤ length facts.new.facts }
     ensures waiting { queue.new.waiting ≡ queue.old.waiting }
@@ -304,7 +304,7 @@ fn listed_still<W: WorkList>(
     requires derived { IsDerived ground.now facts.old }
     requires turns { HaveTurns facts.old.facts queue.old }
     requires flags { length flags.now ≤ length facts.old.facts }
-    requires entered { HasEntered ground.now entered queue.old.served facts.old.facts }
+    requires entered { HasEntered ground.now entered queue.old.served facts.old }
     requires listed { ListsFacts ground.now facts.old (kept flags.now queue.old.served) (queue.old.served ++ option_list queue.old.hand) index.old }
     ensures goes_on { OnOk result (GoOn ground.now u32.MAX facts.old facts.new queue.old queue.new index.new) }
     ensures served { OnOk result (queue.new.served ≡ kept flags.now queue.old.served) }

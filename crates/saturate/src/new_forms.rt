@@ -13,10 +13,7 @@ use std::alloc::Global;
 fn may_ask(form: Form) -> bool
     ensures { result ≡ false → AsksNothing form }
 {
-    !matches!(
-        form,
-        Form::N7(..) | Form::N8(..) | Form::N9(..) | Form::N11(..)
-    )
+    !matches!(form, Form::N8(..) | Form::N9(..) | Form::N11(..))
 }
 
 /// Whether the form may ask for facts, and no earlier form is equal to it.

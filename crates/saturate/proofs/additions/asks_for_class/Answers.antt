@@ -12,5 +12,6 @@ pub returns-else-is_used-clause-no : goal.returns-else-is_used-clause-no
 returns-else-is_used-clause-no c = λ no.
     not_named c.args.class c.args.added.now.forms
     (λ n under. c.is_used.ensures.none c.if-is_used.false n ((c.alone.ensures n).1 under))
-    (c.asks_for_pairs.ensures.first no)
-    (c.asks_for_pairs.ensures.filler no)
+    (c.asks_for_more.ensures.first no)
+    (c.asks_for_more.ensures.filler no)
+    (c.asks_for_more.ensures.loops no)

@@ -1,6 +1,5 @@
 use Rattle.std.proofs.lemmas.Result.{on_ok_weaker}
-use Rattle.facts.specs.Closure.{IsLoop}
-use Rattle.inference.proofs.Drawing.{all_still}
+use Rattle.inference.proofs.Owing.{loops_still}
 use Rattle.saturate.proofs.extension.begun.Goals as goal
 
 pub begin_more-requires-clause-entered : goal.begin_more-requires-clause-entered
@@ -16,7 +15,7 @@ returns-in-Some c = λ served entered.
       drawn = on_ok_weaker c.begin_more.result (λ given. record {
         grows = s;
         given = given;
-        loops = λ n there f x at target. all_still s (IsLoop x) c.args.rules.now.problem.now.forms ((entered c.in-Some.many c.in-Some.is).loops n there f x at target);
+        loops = λ n there f x at target top. loops_still s x ((entered c.in-Some.many c.in-Some.is).loops n there f x at target top);
       }) c.begin_more.ensures.drawn;
     }
 

@@ -1,29 +1,26 @@
 use Rattle.std.proofs.Common.{[]}
 use Rattle.inference.specs.Completeness.{IsEntered}
 use Rattle.inference.proofs.Growth.{grows_same, grows_trans}
-use Rattle.inference.proofs.Drawing.{concluded_still, differences_still, draws, each_more, each, drawn, entered_still}
+use Rattle.inference.proofs.Drawing.{concluded_still, draws, each_more, each, drawn, entered_still}
 use Rattle.inference.proofs.rules.Rules.begin_more.Goals as goal
 
 pub loop-number-init : goal.loop-number-init
-loop-number-init c = record {
-  grows = grows_same c.draw_different.ensures.grows.derived;
-  entered = λ x there. entered_still (grows_trans c.draw.ensures.grows c.draw_different.ensures.grows) x (c.requires.entered x there);
-}
+loop-number-init c = record { grows = grows_same c.requires.derived; entered = c.requires.entered }
 
 pub loop-number-preserved : goal.loop-number-preserved
 loop-number-preserved c =
     let k = c.args.self.now.problem.now in
     record {
       grows = grows_trans c.loop-number.invariant.grows c.enter.ensures.grows;
-      entered = each_more (λ x. IsEntered k x c.loop-number.facts.facts) (λ x. IsEntered k x c.enter.new.facts.facts) k.roots c.roots-roots.result.now c.loop-number.number _ c.roots-roots.ensures c.loop-number-test.true
+      entered = each_more (λ x. IsEntered k x c.loop-number.facts) (λ x. IsEntered k x c.enter.new.facts) k.roots c.roots-roots.result.now c.loop-number.number _ c.roots-roots.ensures c.loop-number-test.true
           c.loop-number.invariant.entered (entered_still c.enter.ensures.grows) c.in_ok-enter.ensures.drawn;
     }
 
 pub returns : goal.returns
 returns c =
     let k = c.args.self.now.problem.now in
-    let s = c.loop-number.invariant.grows in
-    let t = grows_trans c.draw_different.ensures.grows s in
-    draws (grows_trans c.draw.ensures.grows t) (drawn k [] c.loop-number.facts.facts (concluded_still t [] c.in_ok-draw.ensures.drawn)
-    (each (λ x. IsEntered k x c.loop-number.facts.facts) k.roots c.roots-roots.result.now c.loop-number.number c.roots-roots.ensures c.loop-number-test.false c.loop-number.invariant.entered)
-    (λ g e. absurd (cc)) (λ e. differences_still s c.in_ok-draw_different.ensures.drawn))
+    let s = c.draw_different.ensures.grows in
+    let t = grows_trans c.draw.ensures.grows s in
+    draws (grows_trans c.loop-number.invariant.grows t) (drawn k [] c.draw_different.new.facts (λ form f owed. owed) (concluded_still s [] c.in_ok-draw.ensures.drawn)
+    (λ x there. entered_still t x (each (λ y. IsEntered k y c.loop-number.facts) k.roots c.roots-roots.result.now c.loop-number.number c.roots-roots.ensures c.loop-number-test.false c.loop-number.invariant.entered x there))
+    (λ g e. absurd (cc)) (λ e. c.in_ok-draw_different.ensures.drawn))

@@ -1,7 +1,7 @@
 use Rattle.std.proofs.Common.{[], ◌∷◌, refl, sym, subst}
 use Rattle.facts.specs.declared.contexts.Fact.{Fact}
 use Rattle.inference.specs.Visits.{AllChainsDrawn, IsBy}
-use Rattle.inference.proofs.Drawing.{drawn, draws}
+use Rattle.inference.proofs.Drawing.{drawn_by_two, draws}
 use Rattle.inference.proofs.Edges.{property_there}
 use Rattle.inference.proofs.Visiting.{edges_drawn}
 use Rattle.inference.proofs.rules.Rules.draw_edges.Goals as goal
@@ -16,6 +16,5 @@ returns-in_ok-draw_chains c =
     let k = c.args.self.now.problem.now in
     let facts = c.draw_chains.new.facts.facts in
     let by : IsBy c.in-Edge.property c.args.f = rw c.in-Edge.is refl in
-    draws c.draw_chains.ensures.grows (drawn k (c.args.f ∷ c.args.g ∷ []) facts (edges_drawn k c.args.f c.args.g c.in-Edge.property facts by c.requires.other
-    (subst (λ (f : Fact). AllChainsDrawn k (f ∷ c.args.g ∷ []) facts c.in-Edge.property) (sym c.in-Edge.is) c.in_ok-draw_chains.ensures.drawn))
-    (λ x none. absurd none) (λ h e. absurd (cc)) (λ e. absurd (cc)))
+    draws c.draw_chains.ensures.grows (drawn_by_two k c.args.f c.args.g facts (edges_drawn k c.args.f c.args.g c.in-Edge.property facts by c.requires.other
+    (subst (λ (f : Fact). AllChainsDrawn k (f ∷ c.args.g ∷ []) facts c.in-Edge.property) (sym c.in-Edge.is) c.in_ok-draw_chains.ensures.drawn)))

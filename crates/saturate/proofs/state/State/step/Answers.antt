@@ -3,7 +3,8 @@ use Rattle.std.proofs.lemmas.Option.{none-some, slice_get_within}
 use Rattle.facts.specs.Closure.{Problem}
 use Rattle.inference.specs.Derivations.{Grows}
 use Rattle.inference.specs.Visits.{IsNotCarried}
-use Rattle.inference.specs.Completeness.{Drawn, IsRedundantAsSecond}
+use Rattle.inference.specs.Completeness.{IsRedundantAsSecond}
+use Rattle.inference.specs.Entry.{IsDrawnAlone}
 use Rattle.axioms.specs.WellFormedness.{AreDistinct}
 use Rattle.saturate.specs.Run.{IsLeft, IsStep}
 use Rattle.saturate.specs.State.{IsUnderWay}
@@ -88,7 +89,7 @@ module _ (g : _) (c : After-finish g) (s : IsUnderWay c.self.inside.ground c.sel
   under_way =
       let f = c.get-fact.result in
       let new = c.serve.new.facts in
-      let alone = subst (λ (k : Problem). Drawn k (f ∷ []) new.facts) c.problem-problem.ensures c.in_ok-serve.ensures.drawn.alone in
+      let alone = subst (λ (k : Problem). IsDrawnAlone k c.in-Some.hand f c.self.inside.facts new) c.problem-problem.ensures c.in_ok-serve.ensures.drawn.alone in
       let met = subst (λ (k : Problem). AllListedAreMet k f c.self.inside.facts.facts c.add.new.self new) c.problem-problem.ensures c.in_ok-serve.ensures.drawn.met in
       let whole = listed indexed_then c.get-fact.ensures c.in-Ok.ensures.ok redundant_then uncarried_then in
       one_served s (grows g c) c.in-Some.hand f c.get-fact.ensures alone
