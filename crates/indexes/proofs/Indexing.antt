@@ -9,27 +9,40 @@ use Rattle.indexes.specs.declared.key_lists.KeyLists.{KeyLists}
 use Rattle.indexes.specs.declared.keys.Key.{Key}
 use Rattle.indexes.specs.declared.roles.ByRole.{ByRole}
 use Rattle.indexes.specs.Keys.{class_key, by_kind, by_alone, by_first, by_second, by_filler, by_chain, by_end, by_plain, by_linked_first, by_linked_second, by_denied}
-use Rattle.indexes.specs.FormIndex.{at_key, AreFormsListed, IsFormIndex, ListsNumbers}
+use Rattle.indexes.specs.FormIndex.{at_key, AreAllPutInOrder, AreFormsListed, ArePutInOrder, Ascend, IsFormIndex, ListsNumbers}
+use Rattle.indexes.specs.Roles.{ForEach}
 use Rattle.indexes.specs.FormsUnderKeys.{HasKeyAt, IsLikeFirst, IsUnder}
 use Rattle.indexes.specs.Disjoint.{operand_key, outside, pair_number, ArePairsOf, AreRows, IsAny, IsBehind, IsOf, IsPair}
 use Rattle.std.proofs.lemmas.Option.{same_Some}
 use Rattle.indexes.proofs.Walking.{all_outside, outside_form, outside_or_in, pair_in_row}
 
--- the lists of the forms outside of rows are an index of all
-pub all_indexed : (forms : List Form) (operands : List Operand) → AreRows operands → ArePairsOf forms operands → (index : ByRole KeyLists) → AreFormsListed (outside forms operands) index → IsFormIndex forms operands index
-all_indexed forms operands rows are index listed = record {
-  kinds = all_outside forms operands rows are by_kind (λ c d. refl) index.kinds listed.kinds;
-  alone = all_outside forms operands rows are by_alone (λ c d. refl) index.alone listed.alone;
-  first = listed.first;
-  second = listed.second;
-  fillers = all_outside forms operands rows are by_filler (λ c d. refl) index.fillers listed.fillers;
-  chains = all_outside forms operands rows are by_chain (λ c d. refl) index.chains listed.chains;
-  ends = all_outside forms operands rows are by_end (λ c d. refl) index.ends listed.ends;
-  plain = all_outside forms operands rows are by_plain (λ c d. refl) index.plain listed.plain;
-  linked_first = all_outside forms operands rows are by_linked_first (λ c d. refl) index.linked_first listed.linked_first;
-  linked_second = all_outside forms operands rows are by_linked_second (λ c d. refl) index.linked_second listed.linked_second;
-  denied = all_outside forms operands rows are by_denied (λ c d. refl) index.denied listed.denied;
-}
+-- lists that are put into order list what they did
+put_listed : (key : Form → Option Key) (there : ℕ → Option Form) (forms : List Form) (old new : KeyLists) → ArePutInOrder forms old new → ListsNumbers key there old → ListsNumbers key there new
+put_listed key there forms old new put listed k n = (λ c. (listed k n).0 ((put.same k n).0 c), λ w. (put.same k n).1 ((listed k n).1 w))
+
+-- the lists of the forms outside of rows, put into order, are an index of all
+pub all_indexed : (forms : List Form) (operands : List Operand) → AreRows operands → ArePairsOf forms operands → (index new : ByRole KeyLists) → AreFormsListed (outside forms operands) index → ForEach (λ key lists. Ascend lists) index → AreAllPutInOrder forms index new → IsFormIndex forms operands new
+all_indexed forms operands rows are index new listed ascend put =
+    let there = slice_get forms in
+    let out = all_outside forms operands rows are in
+    record {
+      kinds = subst (ListsNumbers by_kind there) (sym put.kinds) (out by_kind (λ c d. refl) index.kinds listed.kinds);
+      alone = subst (ListsNumbers by_alone there) (sym put.alone) (out by_alone (λ c d. refl) index.alone listed.alone);
+      first = subst (ListsNumbers by_first (outside forms operands)) (sym put.first) listed.first;
+      second = subst (ListsNumbers by_second (outside forms operands)) (sym put.second) listed.second;
+      fillers = put_listed by_filler there forms index.fillers new.fillers put.fillers (out by_filler (λ c d. refl) index.fillers listed.fillers);
+      chains = put_listed by_chain there forms index.chains new.chains put.chains (out by_chain (λ c d. refl) index.chains listed.chains);
+      ends = subst (ListsNumbers by_end there) (sym put.ends) (out by_end (λ c d. refl) index.ends listed.ends);
+      plain = subst (ListsNumbers by_plain there) (sym put.plain) (out by_plain (λ c d. refl) index.plain listed.plain);
+      linked_first = subst (ListsNumbers by_linked_first there) (sym put.linked_first) (out by_linked_first (λ c d. refl) index.linked_first listed.linked_first);
+      linked_second = subst (ListsNumbers by_linked_second there) (sym put.linked_second) (out by_linked_second (λ c d. refl) index.linked_second listed.linked_second);
+      denied = put_listed by_denied there forms index.denied new.denied put.denied (out by_denied (λ c d. refl) index.denied listed.denied);
+      first_ascends = subst Ascend (sym put.first) ascend.first;
+      second_ascends = subst Ascend (sym put.second) ascend.second;
+      fillers_in_order = put.fillers.order;
+      chains_in_order = put.chains.order;
+      denied_in_order = put.denied.order;
+    }
 
 -- the classes of one key are one
 same_class : (c d : ExprId) (k : Key) → Some (class_key (Expr c)) ≡ Some k → Some (class_key (Expr d)) ≡ Some k → c ≡ d

@@ -11,3 +11,5 @@ pub mod Pairing
 pub mod Indexing
 pub mod Paths
 pub mod Grouping
+pub mod Order
+pub mod Keyed

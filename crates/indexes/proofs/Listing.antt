@@ -1,7 +1,8 @@
 -- Lists of forms by key.
-use Rattle.std.proofs.Common.{◌≡◌, ◌↔◌, ◌+◌, ◌-◌, ◌<◌, ◌≤◌, ℕ, Bool, false, true, not, eqb, List, [], ◌∷◌, length, get_or, take, drop, Option, Some, Contains, refl, sym, ap, ap₂, subst, ◌∙◌, arith}
+use Rattle.std.proofs.Common.{◌≡◌, ◌↔◌, ◌+◌, ◌-◌, ◌<◌, ◌≤◌, ℕ, Bool, false, true, not, eqb, List, [], ◌∷◌, length, get_or, take, drop, Option, Some, Contains, refl, sym, ap, ap₂, subst, subst₂, ◌∙◌, arith}
 use Rattle.std.proofs.lemmas.Bool.{false≢true}
 use Rattle.std.proofs.lemmas.List.{get_or_past}
+use Rattle.std.specs.List.Sorted.{IsNonDecreasing}
 use Rattle.lemmas.proofs.Members.{Contains-none, Contains-first}
 use Rattle.normal_forms.specs.declared.forms.Form.{Form}
 use Rattle.indexes.specs.declared.keys.Key.{Key}
@@ -9,9 +10,9 @@ use Rattle.indexes.specs.declared.keys.Key.TheVariants.{Whole, Partial}
 use Rattle.indexes.specs.declared.key_lists.KeyLists.{KeyLists}
 use Rattle.indexes.specs.declared.key_lists.KeyFilling.{KeyFilling}
 use Rattle.indexes.specs.FormsUnderKeys.{HasKeyAt, numbers_under}
-use Rattle.indexes.specs.FormIndex.{at_key, AreFormsListed, ListsNumbers, ListsNothing}
-use Rattle.indexes.specs.KeyFillings.{AreListsOf}
-use Rattle.indexes.specs.Roles.{ForEachTwo}
+use Rattle.indexes.specs.FormIndex.{at_key, AreFormsListed, Ascend, ListsNumbers, ListsNothing}
+use Rattle.indexes.specs.KeyFillings.{AreFull, AreListsOf}
+use Rattle.indexes.specs.Roles.{ForEach, ForEachTwo}
 use Rattle.indexes.specs.declared.roles.ByRole.{ByRole}
 use Rattle.indexes.specs.Lists.{list_at}
 use Rattle.indexes.proofs.Counting.{numbers_are_under, under_are_numbers}
@@ -38,6 +39,14 @@ listed_under key there end within f lists full w = lists_of_numbers key there en
 pub all_listed : (there : ℕ → Option Form) (end : ℕ) → ((n : ℕ) (form : Form) → there n ≡ Some form → n < end) → (filling : ByRole KeyFilling) (index : ByRole KeyLists) → AreAllFilled there end end filling → ForEachTwo (λ key by lists. AreListsOf by lists) filling index → AreFormsListed there index
 all_listed there end within filling index are of = for_other (λ key f. AreFilled key there end end f) (λ key f lists. AreListsOf f lists) (λ key lists. ListsNumbers key there lists) filling index
     (λ key f lists full w. listed_under key there end within f lists full w) are of
+
+-- the lists that are full ascend
+pub full_ascend : (f : KeyFilling) (lists : KeyLists) → AreFull f → AreListsOf f lists → Ascend lists
+full_ascend f lists full of (Whole k) = subst₂ (λ (starts numbers : List ℕ). IsNonDecreasing (list_at starts numbers k)) (sym of.wholes.starts) (sym of.wholes.numbers) (full.wholes.ascending k)
+full_ascend f lists full of (Partial k) = subst₂ (λ (starts numbers : List ℕ). IsNonDecreasing (list_at starts numbers k)) (sym of.partials.starts) (sym of.partials.numbers) (full.partials.ascending k)
+
+pub all_ascend : (filling : ByRole KeyFilling) (index : ByRole KeyLists) → ForEach (λ key by. AreFull by) filling → ForEachTwo (λ key by lists. AreListsOf by lists) filling index → ForEach (λ key lists. Ascend lists) index
+all_ascend filling index full of = for_other (λ key f. AreFull f) (λ key f lists. AreListsOf f lists) (λ key lists. Ascend lists) filling index (λ key f lists full w. full_ascend f lists full w) full of
 
 without : (list : List ℕ) → ((n : ℕ) → Contains list n → ⊥) → list ≡ []
 without [] none = refl

@@ -50,6 +50,11 @@ abbrev pub by_filler : Form → Option Key
 by_filler (N4 _ a _) = Some (class_key a)
 by_filler _ = None
 
+-- its property
+abbrev pub by_restricted : Form → Option Key
+by_restricted (N4 r _ _) = Some (key.Whole r.0)
+by_restricted _ = None
+
 -- the first property of a chain
 abbrev pub by_chain : Form → Option Key
 by_chain (N6 r _ _) = Some (property_key r)
@@ -79,3 +84,8 @@ by_linked_second _ = None
 abbrev pub by_denied : Form → Option Key
 by_denied (N12 a _ _) = Some (individual_key a)
 by_denied _ = None
+
+-- the target of that pair
+abbrev pub by_target : Form → Option Key
+by_target (N12 _ _ b) = Some (individual_key b)
+by_target _ = None

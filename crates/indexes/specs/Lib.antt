@@ -3,6 +3,7 @@ pub mod Contexts
 pub mod Parts
 pub mod FactIndex
 pub mod Keys
+pub mod Seconds
 pub mod Roles
 pub mod FormsUnderKeys
 pub mod Counts

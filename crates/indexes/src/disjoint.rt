@@ -5,7 +5,7 @@ ghost use Rattle.normal_forms.specs.Pairs.{disjoint_form, pairs};
 ghost use Rattle.indexes.specs.declared.disjoint.Operand.{Operand as Operand2};
 ghost use Rattle.indexes.specs.Counts.{AreCountsOf};
 ghost use Rattle.indexes.specs.Disjoint.{operand_key, rows_of, AreRows, ArePairsOf, IsAny, IsOf, IsPair};
-ghost use Rattle.indexes.specs.FormIndex.{ListsNumbers};
+ghost use Rattle.indexes.specs.FormIndex.{Ascend, ListsNumbers};
 
 use crate::key_counts::KeyCounts;
 use crate::key_lists::{KeyFilling, KeyLists};
@@ -110,7 +110,8 @@ fn places_counted(alloc: Global, operands: &[Operand]) -> Result<KeyCounts, Allo
 /// The places of each class. Fails where memory is refused.
 fn places_listed(alloc: Global, operands: &[Operand]) -> Result<KeyLists, AllocError>
     requires { length operands.now ≤ u32.MAX }
-    ensures { IfOk result (λ places. ListsNumbers operand_key (slice_get operands.now) places) }
+    ensures listed { IfOk result (λ places. ListsNumbers operand_key (slice_get operands.now) places) }
+    ensures ascend { IfOk result (λ places. Ascend places) }
 {
     let counts = places_counted(alloc, operands)?;
     let mut filling = KeyFilling::new(alloc, &counts)?;

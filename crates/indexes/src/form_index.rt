@@ -2,7 +2,7 @@
 ghost use Rattle.std.specs.Prelude.{◌≤◌, IfOk, [], length};
 ghost use Rattle.indexes.specs.Counts.{AreFew};
 ghost use Rattle.indexes.specs.Disjoint.{AreRows, ArePairsOf};
-ghost use Rattle.indexes.specs.FormIndex.{IsFormIndex};
+ghost use Rattle.indexes.specs.FormIndex.{AreAllPutInOrder, IsFormIndex};
 ghost use Rattle.indexes.specs.KeyFillings.{AreFull, AreListsOf, HasPlaces, IsRoomUnder, PlacesForm};
 ghost use Rattle.indexes.specs.Roles.{ForEach, ForEachTwo};
 
@@ -104,6 +104,16 @@ fn filled(filling: ByRole<KeyFilling>) -> ByRole<KeyLists>
     }
 }
 
+/// Puts the lists of those forms into order that are found by a second key too.
+fn put_in_order(forms: &FormList, mut index: ByRole<KeyLists>) -> ByRole<KeyLists>
+    ensures { AreAllPutInOrder forms.now index result }
+{
+    index.fillers.put_in_order(forms);
+    index.chains.put_in_order(forms);
+    index.denied.put_in_order(forms);
+    index
+}
+
 /// Lists all of the forms by each key that they have, but those in the rows of the operands: it goes over them twice, and counts them
 /// first. Fails where memory is refused.
 pub(crate) fn listed(
@@ -132,5 +142,5 @@ pub(crate) fn listed(
             }
         }
     }
-    Ok(filled(filling))
+    Ok(put_in_order(forms, filled(filling)))
 }

@@ -4,7 +4,7 @@ ghost use Rattle.axioms.specs.declared.ids.ExprId.{ExprId as ExprId2};
 ghost use Rattle.normal_forms.specs.declared.forms.Class2.TheVariants as classes;
 ghost use Rattle.indexes.specs.declared.keys.Key.{Key as Key2};
 ghost use Rattle.indexes.specs.declared.keys.Key.TheVariants as keys;
-ghost use Rattle.indexes.specs.Keys.{class_key, property_key, individual_key, by_kind, by_alone, by_first, by_second, by_filler, by_chain, by_end, by_plain, by_linked_first, by_linked_second, by_denied};
+ghost use Rattle.indexes.specs.Keys.{class_key, property_key, individual_key, by_kind, by_alone, by_first, by_second, by_filler, by_chain, by_end, by_plain, by_linked_first, by_linked_second, by_denied, by_restricted, by_target};
 ghost use Rattle.indexes.specs.FormsUnderKeys.{IsLikeFirst, IsUnder};
 
 use crate::disjoint::Disjointness;
@@ -15,6 +15,7 @@ use crate::lists::is_used;
 use crate::named::{key_of_class, key_of_property};
 use crate::overlap::common;
 use crate::roles::ByRole;
+use crate::seconds::with_second;
 use axioms::IndId;
 use facts::Context;
 use normal_forms::{Class2, Form, FormList, PropId2};
@@ -236,6 +237,14 @@ impl IndexedProblem {
         self.index.fillers.of(key_of_class(class))
     }
 
+    /// The restrictions of that property that need that class at the target of an edge.
+    pub fn restrictions(&self, property: PropId2, filler: Class2) -> &[u32]
+        ensures { (n : ℕ) → Contains result.now n ↔ (IsUnder by_filler self.now.forms (class_key filler) n × IsUnder by_restricted self.now.forms (property_key property) n) }
+    {
+        let listed = self.index.fillers.of(key_of_class(filler));
+        with_second(&self.forms, listed, key_of_property(property))
+    }
+
     /// A number above that of each expression that is a filler.
     pub fn fillers_end(&self) -> usize
         ensures { (e : ExprId2) (n : ℕ) → IsUnder by_filler self.now.forms (class_key (classes.Expr e)) n → e.0 < result }
@@ -255,6 +264,14 @@ impl IndexedProblem {
         ensures { (n : ℕ) → Contains result.now n ↔ IsUnder by_end self.now.forms (property_key property) n }
     {
         self.index.ends.of(key_of_property(property))
+    }
+
+    /// The chains of these two properties, in this order.
+    pub fn chains(&self, first: PropId2, second: PropId2) -> &[u32]
+        ensures { (n : ℕ) → Contains result.now n ↔ (IsUnder by_chain self.now.forms (property_key first) n × IsUnder by_end self.now.forms (property_key second) n) }
+    {
+        let listed = self.index.chains.of(key_of_property(first));
+        with_second(&self.forms, listed, key_of_property(second))
     }
 
     /// The forms that put that property below another, and no chain.
@@ -297,5 +314,13 @@ impl IndexedProblem {
         ensures { (n : ℕ) → Contains result.now n ↔ IsUnder by_denied self.now.forms (individual_key individual) n }
     {
         self.index.denied.of(Key::Whole(individual.0))
+    }
+
+    /// The forms that deny a pair of these individuals, in this order.
+    pub fn denied_between(&self, source: IndId, target: IndId) -> &[u32]
+        ensures { (n : ℕ) → Contains result.now n ↔ (IsUnder by_denied self.now.forms (individual_key source) n × IsUnder by_target self.now.forms (individual_key target) n) }
+    {
+        let listed = self.index.denied.of(Key::Whole(source.0));
+        with_second(&self.forms, listed, Key::Whole(target.0))
     }
 }

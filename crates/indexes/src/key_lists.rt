@@ -1,13 +1,13 @@
 //! Lists of the numbers of forms, by keys of two kinds.
 ghost use Rattle.std.specs.Prelude.{◌≡◌, ◌↔◌, IfOk, Some, true};
-ghost use Rattle.std.specs.List.Sorted.{IsNonDecreasing};
-ghost use Rattle.indexes.specs.FormIndex.{at_key, ListsNothing};
+ghost use Rattle.indexes.specs.FormIndex.{at_key, ArePutInOrder, ListsNothing};
 ghost use Rattle.indexes.specs.Counts.{AreFew};
 ghost use Rattle.indexes.specs.KeyFillings.{AreFull, AreListsOf, HasPlaceUnder, IsRoomUnder, PlacesUnder};
 
 use crate::key_counts::KeyCounts;
 use crate::keys::Key;
 use crate::lists::{Filling, Lists};
+use normal_forms::FormList;
 use std::alloc::{AllocError, Global};
 
 /// A list for each key.
@@ -97,10 +97,17 @@ impl KeyLists {
         self.wholes.is_empty() && self.partials.is_empty()
     }
 
-    /// The list of the key, which ascends.
+    /// Puts each list into the order of the second keys of the forms.
+    pub(crate) fn put_in_order(&mut self, forms: &FormList)
+        ensures { ArePutInOrder forms.now self.old self.new }
+    {
+        self.wholes.put_in_order(forms);
+        self.partials.put_in_order(forms);
+    }
+
+    /// The list of the key.
     pub(crate) fn of(&self, key: Key) -> &[u32]
-        ensures list { result.now ≡ at_key self.now key }
-        ensures ascending { IsNonDecreasing result.now }
+        ensures { result.now ≡ at_key self.now key }
     {
         match key {
             Key::Whole(number) => self.wholes.of(number),

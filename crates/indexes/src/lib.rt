@@ -18,6 +18,7 @@ mod overlap;
 mod roles;
 mod roots;
 mod same_individuals;
+mod seconds;
 mod table;
 
 pub use index::Index;

@@ -1,8 +1,10 @@
 //! Lists of numbers by key, all in one piece.
 ghost use Rattle.std.specs.Prelude.{◌≡◌, ◌-◌, ◌≤◌, ◌↔◌, ℕ, [], Contains, IfOk, false, length, slice_index, true};
-ghost use Rattle.std.specs.List.Sorted.{IsNonDecreasing};
+ghost use Rattle.indexes.specs.Seconds.{IsInOrder};
 ghost use Rattle.indexes.specs.Lists.{before, list_at, AreAllListed, AreStarts, HasPlace, IsRoomFor, IsWithin, Places};
 
+use crate::seconds::put_in_order;
+use normal_forms::FormList;
 use std::alloc::{AllocError, Global};
 
 /// A list for each key: 4 bytes for each number, and 4 for each key up to the greatest that has one; no memory where none has.
@@ -13,7 +15,6 @@ pub(crate) struct Lists {
     pub numbers: Vec<u32>,
     ghost within: { IsWithin starts.items numbers.items },
     ghost listed: { AreAllListed starts.items numbers.items },
-    ghost ascending: { (key : ℕ) → IsNonDecreasing (list_at starts.items numbers.items key) },
 }
 
 /// Lists that are filled, of which it is known how many numbers each will have.
@@ -61,6 +62,20 @@ pub(crate) fn is_used(list: &[u32]) -> bool
     !list.is_empty()
 }
 
+/// Puts the list of each key into the order of the second keys of the forms.
+fn put_all_in_order(forms: &FormList, starts: &[u32], numbers: &mut [u32])
+    requires { IsWithin starts.now numbers.old }
+    ensures long { length numbers.new ≡ length numbers.old }
+    ensures same { (key n : ℕ) → Contains (list_at starts.now numbers.new key) n ↔ Contains (list_at starts.now numbers.old key) n }
+    ensures order { (key : ℕ) → IsInOrder forms.now (list_at starts.now numbers.new key) }
+{
+    for key in 1..starts.len() {
+        let start = starts[key - 1] as usize;
+        let end = starts[key] as usize;
+        put_in_order(forms, &mut numbers[start..end]);
+    }
+}
+
 impl Filling {
     /// Room for so many numbers of each key. Fails where memory is refused.
     pub(crate) fn new(alloc: Global, counts: &[u32]) -> Result<Self, AllocError>
@@ -93,7 +108,6 @@ impl Filling {
     pub(crate) fn filled(self) -> Lists
         requires within { IsWithin self.starts.items self.numbers.items }
         requires listed { AreAllListed self.starts.items self.numbers.items }
-        requires ascending { (key : ℕ) → IsNonDecreasing (list_at self.starts.items self.numbers.items key) }
         ensures starts { result.starts.items ≡ self.starts.items }
         ensures numbers { result.numbers.items ≡ self.numbers.items }
     {
@@ -131,10 +145,18 @@ impl Lists {
         self.starts.len().saturating_sub(1)
     }
 
-    /// The list of the key, which ascends.
+    /// Puts each list into the order of the second keys of the forms.
+    pub(crate) fn put_in_order(&mut self, forms: &FormList)
+        ensures starts { self.new.starts.items ≡ self.old.starts.items }
+        ensures same { (key n : ℕ) → Contains (list_at self.new.starts.items self.new.numbers.items key) n ↔ Contains (list_at self.old.starts.items self.old.numbers.items key) n }
+        ensures order { (key : ℕ) → IsInOrder forms.now (list_at self.new.starts.items self.new.numbers.items key) }
+    {
+        put_all_in_order(forms, &self.starts, &mut self.numbers);
+    }
+
+    /// The list of the key.
     pub(crate) fn of(&self, key: u32) -> &[u32]
-        ensures list { result.now ≡ list_at self.now.starts.items self.now.numbers.items key }
-        ensures ascending { IsNonDecreasing result.now }
+        ensures { result.now ≡ list_at self.now.starts.items self.now.numbers.items key }
     {
         let next = key as usize + 1;
         if next >= self.starts.len() {

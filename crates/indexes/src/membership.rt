@@ -44,18 +44,16 @@ fn like(problem: &IndexedProblem, form: Form) -> Candidates<'_>
     match form {
         Form::N1(a, _) | Form::N3(a, _, _) => Candidates::of(problem.alone(a)),
         Form::N2(a, b, _) => problem.intersections(a, b),
-        Form::N4(_, a, _) => Candidates::of(problem.with_filler(a)),
+        Form::N4(r, a, _) => Candidates::of(problem.restrictions(PropId2::Property(r), a)),
         Form::N5(r, _) => Candidates::of(problem.plain_from(PropId2::Property(r))),
-        Form::N6(r, s, _) => {
-            Candidates::of(shorter(problem.chains_from(r), problem.chains_to(s)))
-        }
+        Form::N6(r, s, _) => Candidates::of(problem.chains(r, s)),
         Form::N7(_) => Candidates::of(problem.reflexive()),
         Form::N8(..) | Form::N9(..) => Candidates::of(problem.given()),
         Form::N10(a, b) => {
             Candidates::of(shorter(problem.linked_first(a), problem.linked_second(b)))
         }
         Form::N11(..) => Candidates::of(problem.different()),
-        Form::N12(a, _, _) => Candidates::of(problem.denied(a)),
+        Form::N12(a, _, b) => Candidates::of(problem.denied_between(a, b)),
     }
 }
 

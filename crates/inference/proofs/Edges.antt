@@ -1,6 +1,7 @@
 -- The property of an edge is one that a form puts there.
 use Rattle.std.proofs.Common.{◌≡◌, ℕ, zero, suc, ◌+◌, ◌<◌, List, [], ◌∷◌, map, take, slice_get, Some, Option, refl, ap, ◌∙◌, subst, arith}
 use Rattle.std.proofs.lemmas.Option.{none-some, same_Some, slice_get_within}
+use Rattle.normal_forms.specs.declared.forms.Class2.{Class2}
 use Rattle.normal_forms.specs.declared.forms.PropId2.{PropId2}
 use Rattle.normal_forms.specs.declared.forms.Form.{Form}
 use Rattle.normal_forms.specs.declared.forms.Form.TheVariants.{N1, N2, N3, N4, N5, N6, N7, N8, N9, N10, N11, N12}
@@ -13,7 +14,7 @@ use Rattle.property_closure.specs.PropertyClosures.{Known, Has}
 use Rattle.inference.specs.PropertyClosures.{PutsOnEdges, IsClosureOf}
 use Rattle.inference.specs.Derivations.{Derived, IsDerived}
 use Rattle.inference.specs.Completeness.{AreAt}
-use Rattle.inference.specs.Visits.{chained_property, HasProperty, IsBy}
+use Rattle.inference.specs.Visits.{chained_properties, filled_property, HasProperty, IsBy}
 use Rattle.inference.proofs.Lists.{Contains-from_slice_get, slice_get_there, slice_get_take}
 
 -- the property of the fact, where it is an edge, is one that the form puts there
@@ -153,17 +154,35 @@ module _ (k : Problem) {closure : Known} (closed : IsClosureOf k.forms closure) 
   pub first_edge : {d : Derived} → IsDerived k d → (n : ℕ) (f : Fact) → slice_get d.facts n ≡ Some f → (x : Context) (r : PropId2) (y : Context) → f ≡ Edge x r y → Has closure r
   first_edge s n f at x r y e = edge_below s (n + 1) n f (omega arith) at x r y e
 
-  -- so the property of the first of two edges is there
-  pub edge_has : {d : Derived} → IsDerived k d → (numbers : List ℕ) (older : List Fact) (p : PropId2) → AreAt d.facts numbers older → chained_property older ≡ Some p → Has closure p
-  edge_has {d} s numbers [] p at e = absurd (none-some p e)
-  edge_has {d} s numbers (f ∷ []) p at e = absurd (none-some p e)
-  edge_has {d} s numbers (f ∷ g ∷ h ∷ more) p at e = absurd (none-some p e)
-  edge_has {d} s numbers (In _ _ ∷ g ∷ []) p at e = absurd (none-some p e)
-  edge_has {d} s numbers (Edge _ _ _ ∷ In _ _ ∷ []) p at e = absurd (none-some p e)
-  edge_has {d} s [] (Edge x q y ∷ Edge _ _ _ ∷ []) p at e = absurd (cc)
-  edge_has {d} s (n ∷ ns) (Edge x q y ∷ Edge z o v ∷ []) p at e =
-      let here : slice_get d.facts n ≡ Some (Edge x q y) = cc in
-      subst (Has closure) (same_Some q p e) (first_edge s n (Edge x q y) here x q y refl)
+  -- so the properties of two edges are there
+  pub edges_have : {d : Derived} → IsDerived k d → (numbers : List ℕ) (older : List Fact) (p q : PropId2) → AreAt d.facts numbers older → chained_properties older ≡ Some (p, q) → Has closure p × Has closure q
+  edges_have {d} s numbers [] p q at e = absurd (none-some _ e)
+  edges_have {d} s numbers (f ∷ []) p q at e = absurd (none-some _ e)
+  edges_have {d} s numbers (f ∷ g ∷ h ∷ more) p q at e = absurd (none-some _ e)
+  edges_have {d} s numbers (In _ _ ∷ g ∷ []) p q at e = absurd (none-some _ e)
+  edges_have {d} s numbers (Edge _ _ _ ∷ In _ _ ∷ []) p q at e = absurd (none-some _ e)
+  edges_have {d} s [] (Edge x r y ∷ Edge _ _ _ ∷ []) p q at e = absurd (cc)
+  edges_have {d} s (n ∷ []) (Edge x r y ∷ Edge _ _ _ ∷ []) p q at e = absurd (cc)
+  edges_have {d} s (n ∷ m ∷ ns) (Edge x r y ∷ Edge z o v ∷ []) p q at e =
+      let here : slice_get d.facts n ≡ Some (Edge x r y) = cc in
+      let behind : slice_get d.facts m ≡ Some (Edge z o v) = cc in
+      let same = same_Some _ _ e in
+      (
+        subst (Has closure) (ap (λ (pair : PropId2 × PropId2). pair.0) same) (first_edge s n (Edge x r y) here x r y refl),
+        subst (Has closure) (ap (λ (pair : PropId2 × PropId2). pair.1) same) (first_edge s m (Edge z o v) behind z o v refl),
+      )
+
+  -- and so is that of an edge before a class
+  pub filled_has : {d : Derived} → IsDerived k d → (numbers : List ℕ) (older : List Fact) (p : PropId2) (c : Class2) → AreAt d.facts numbers older → filled_property older ≡ Some (p, c) → Has closure p
+  filled_has {d} s numbers [] p c at e = absurd (none-some _ e)
+  filled_has {d} s numbers (f ∷ []) p c at e = absurd (none-some _ e)
+  filled_has {d} s numbers (f ∷ g ∷ h ∷ more) p c at e = absurd (none-some _ e)
+  filled_has {d} s numbers (In _ _ ∷ g ∷ []) p c at e = absurd (none-some _ e)
+  filled_has {d} s numbers (Edge _ _ _ ∷ Edge _ _ _ ∷ []) p c at e = absurd (none-some _ e)
+  filled_has {d} s [] (Edge x r y ∷ In _ _ ∷ []) p c at e = absurd (cc)
+  filled_has {d} s (n ∷ ns) (Edge x r y ∷ In a z ∷ []) p c at e =
+      let here : slice_get d.facts n ≡ Some (Edge x r y) = cc in
+      subst (Has closure) (ap (λ (pair : PropId2 × Class2). pair.0) (same_Some _ _ e)) (first_edge s n (Edge x r y) here x r y refl)
 
 -- the property of each edge is there
 pub has_property : (k : Problem) {closure : Known} → IsClosureOf k.forms closure → {d : Derived} → IsDerived k d → (n : ℕ) (f : Fact) → slice_get d.facts n ≡ Some f → HasProperty closure f

@@ -3,12 +3,13 @@ use Rattle.std.specs.Prelude.{◌≡◌, ℕ, ◌<◌, ◌⊎◌, Bool, true, Li
 use Rattle.std.specs.List.{Contains}
 use Rattle.indexes.specs.declared.keys.Key.{Key}
 use Rattle.normal_forms.specs.declared.forms.Form.{Form}
+use Rattle.normal_forms.specs.declared.forms.Class2.{Class2}
 use Rattle.normal_forms.specs.declared.forms.PropId2.{PropId2}
 use Rattle.normal_forms.specs.Properties.{IsAtOrBelow}
 use Rattle.facts.specs.declared.contexts.Fact.{Fact}
 use Rattle.facts.specs.declared.contexts.Fact.TheVariants.{In, Edge}
 use Rattle.facts.specs.Closure.{Problem, Concludes, Gives}
-use Rattle.indexes.specs.Keys.{by_chain, by_end, property_key}
+use Rattle.indexes.specs.Keys.{by_chain, by_end, by_filler, by_restricted, class_key, property_key}
 use Rattle.indexes.specs.FormsUnderKeys.{IsLikeFirst, IsUnder}
 use Rattle.property_closure.specs.PropertyClosures.{Known, Has}
 use Rattle.inference.specs.Completeness.{AreDrawnFrom, IsDrawnFrom, GoesOn}
@@ -53,14 +54,40 @@ abbrev pub HasProperty : Known → Fact → Type 0
 HasProperty c (In a x) = Unit {0}
 HasProperty c (Edge x r y) = Has c r
 
--- the property of the first of two edges
-abbrev pub chained_pair : Fact → Fact → Option PropId2
-chained_pair (Edge x p y) (Edge z q w) = Some p
+-- the second of two facts is an edge by the property
+abbrev pub IsBehind : PropId2 → List Fact → Type 0
+IsBehind q (f ∷ g ∷ []) = IsBy q g
+IsBehind q _ = ⊥
+
+-- the properties of two edges
+abbrev pub chained_pair : Fact → Fact → Option (PropId2 × PropId2)
+chained_pair (Edge x p y) (Edge z q w) = Some (p, q)
 chained_pair _ _ = None
 
-abbrev pub chained_property : List Fact → Option PropId2
-chained_property (f ∷ g ∷ []) = chained_pair f g
-chained_property _ = None
+abbrev pub chained_properties : List Fact → Option (PropId2 × PropId2)
+chained_properties (f ∷ g ∷ []) = chained_pair f g
+chained_properties _ = None
+
+-- the property of an edge, and the class that is put into a context behind it
+abbrev pub filled_pair : Fact → Fact → Option (PropId2 × Class2)
+filled_pair (Edge x p y) (In c z) = Some (p, c)
+filled_pair _ _ = None
+
+abbrev pub filled_property : List Fact → Option (PropId2 × Class2)
+filled_property (f ∷ g ∷ []) = filled_pair f g
+filled_property _ = None
+
+-- what the restrictions of r that need c at the target of an edge give from these facts is there
+abbrev pub AreRestrictionsDrawn : Problem → List Fact → List Fact → Class2 → PropId2 → Type 0
+AreRestrictionsDrawn k older facts c r = (n : ℕ) → IsUnder by_filler k.forms (class_key c) n → IsUnder by_restricted k.forms (property_key r) n → IsDrawnFrom k older facts n
+
+-- what all restrictions that need c at the target of an edge give from these facts is there
+abbrev pub AllRestrictionsDrawn : Problem → List Fact → List Fact → Class2 → Type 0
+AllRestrictionsDrawn k older facts c = (n : ℕ) → IsUnder by_filler k.forms (class_key c) n → IsDrawnFrom k older facts n
+
+-- what the chains of r and s give from these facts is there
+abbrev pub AreChainsDrawn : Problem → List Fact → List Fact → PropId2 → PropId2 → Type 0
+AreChainsDrawn k older facts r s = (n : ℕ) → IsUnder by_chain k.forms (property_key r) n → IsUnder by_end k.forms (property_key s) n → IsDrawnFrom k older facts n
 
 -- what the chains that begin with r give from these facts is there
 abbrev pub ChainsDrawn : Problem → List Fact → List Fact → PropId2 → Type 0
@@ -70,9 +97,17 @@ ChainsDrawn k older facts r = (n : ℕ) → IsUnder by_chain k.forms (property_k
 abbrev pub AllChainsDrawn : Problem → List Fact → List Fact → PropId2 → Type 0
 AllChainsDrawn k older facts p = (r : PropId2) → IsAtOrBelow k.forms p r → ChainsDrawn k older facts r
 
--- each form, but chains, that gives something from these facts has one of the numbers, or it is like that of the pair
+-- what restrictions give from these facts is there, where they are an edge and a class
+abbrev pub IsFillingDrawn : Problem → List Fact → List Fact → Type 0
+IsFillingDrawn k older facts = (p : PropId2) (c : Class2) → filled_property older ≡ Some (p, c) → AllRestrictionsDrawn k older facts c
+
+-- what chains give from these facts is there, where they are two edges
+abbrev pub IsChainingDrawn : Problem → List Fact → List Fact → Type 0
+IsChainingDrawn k older facts = (p q : PropId2) → chained_properties older ≡ Some (p, q) → AllChainsDrawn k older facts p
+
+-- each form, but chains and restrictions, that gives something from these facts has one of the numbers, or it is like that of the pair
 abbrev pub HaveAllVisited : Problem → List Fact → List ℕ → Option ℕ → Type 0
-HaveAllVisited k older numbers pair = (n : ℕ) (form : Form) (f : Fact) → slice_get k.forms n ≡ Some form → by_chain form ≡ None → Concludes k form older f → Contains numbers n ⊎ IsLikeFirst k.forms pair n
+HaveAllVisited k older numbers pair = (n : ℕ) (form : Form) (f : Fact) → slice_get k.forms n ≡ Some form → by_chain form ≡ None → by_filler form ≡ None → Concludes k form older f → Contains numbers n ⊎ IsLikeFirst k.forms pair n
 
 -- what the forms of these numbers, and of the pair, give from these facts is there
 pub record AreVisited (k : Problem) (older facts : List Fact) (numbers : List ℕ) (pair : Option ℕ) : Type 0 where

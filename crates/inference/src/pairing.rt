@@ -77,8 +77,8 @@ impl Rules<'_> {
         requires other { IsEdge g }
         ensures { Draws self.now facts.old facts.new result (Drawn self.now.problem.now (f ∷ g ∷ []) facts.new.facts) }
     {
-        if let Fact::Edge(_, property, _) = f {
-            self.draw_chains(facts, property, &[m, n], &[f, g])?;
+        if let (Fact::Edge(_, first, _), Fact::Edge(_, second, _)) = (f, g) {
+            self.draw_chains(facts, first, second, &[m, n], &[f, g])?;
         }
         Ok(())
     }

@@ -7,14 +7,14 @@ ghost use Rattle.property_closure.specs.PropertyClosures.{Has};
 ghost use Rattle.inference.specs.PropertyClosures.{IsClosureOf, IsClosureOf-prop};
 ghost use Rattle.inference.specs.Joins.{AreJoins, AreJoins-prop};
 ghost use Rattle.inference.specs.Completeness.{AreAt, AreEntered, IsContextAt, AllDrawn, AreConcluded, DrawnAt, DrawnUpToRedundancy, AreDrawnFrom, AreDrawn, IsDrawnFrom, IsEntered, IsInItself};
-ghost use Rattle.inference.specs.Visits.{AllChainsDrawn, AreVisited};
+ghost use Rattle.inference.specs.Visits.{AllChainsDrawn, AllRestrictionsDrawn, AreVisited, ChainsDrawn, IsBehind, IsChainingDrawn, IsFillingDrawn, filled_property};
 ghost use Rattle.inference.specs.Sameness.{AreGroupsOf, AreGroupsOf-prop};
 ghost use Rattle.inference.specs.Entry.{HasBegun, IsDrawnAlone, LoopIsDrawn, LoopsAreDrawn};
 
 use crate::conclusions::{THING, carried_back, conclusion, condition_of, loop_at};
 use crate::joins::Joins;
 use crate::known_facts::{KnownFacts, Stop};
-use crate::visits::{chained, count_below, visited};
+use crate::visits::{chained, count_below, filled, is_long, visited};
 use facts::{Birth, Context, Fact};
 use indexes::{Groups, IndexedProblem};
 use normal_forms::{Class2, PropId2};
@@ -154,22 +154,154 @@ impl Rules<'_> {
         Ok(())
     }
 
-    /// Adds what chains that begin with the property, or one above it, give from the facts.
-    #[inline(always)]
-    pub(crate) fn draw_chains(
+    /// Adds what the restrictions of the property, or of one above it, that need that class at the target of an edge give from the facts.
+    fn draw_restrictions_of(
         &self,
         facts: &mut KnownFacts,
         property: PropId2,
+        filler: Class2,
         numbers: &[u32],
         older: &[Fact],
     ) -> Result<(), Stop>
         requires derived { IsDerived self.now.problem.now facts.old }
         requires older { AreAt facts.old.facts numbers.now older.now }
+        requires filled { filled_property older.now ≡ Some (property, filler) }
         requires has { Has self.now.closure.now property }
-        ensures { Draws self.now facts.old facts.new result (AllChainsDrawn self.now.problem.now older.now facts.new.facts property) }
+        ensures { Draws self.now facts.old facts.new result (AllRestrictionsDrawn self.now.problem.now older.now facts.new.facts filler) }
     {
         for above in self.closure.supers(property) {
-            self.draw_listed(facts, self.problem.chains_from(*above), numbers, older)?;
+            let listed = self.problem.restrictions(*above, filler);
+            self.draw_listed(facts, listed, numbers, older)?;
+        }
+        Ok(())
+    }
+
+    /// Adds what the restrictions that need that class at the target of an edge give from an edge by the property and the class.
+    #[inline(always)]
+    fn draw_restrictions(
+        &self,
+        facts: &mut KnownFacts,
+        property: PropId2,
+        filler: Class2,
+        numbers: &[u32],
+        older: &[Fact],
+    ) -> Result<(), Stop>
+        requires derived { IsDerived self.now.problem.now facts.old }
+        requires older { AreAt facts.old.facts numbers.now older.now }
+        requires filled { filled_property older.now ≡ Some (property, filler) }
+        requires has { Has self.now.closure.now property }
+        ensures { Draws self.now facts.old facts.new result (AllRestrictionsDrawn self.now.problem.now older.now facts.new.facts filler) }
+    {
+        let listed = self.problem.with_filler(filler);
+        if is_long(listed, self.closure.supers(property)) {
+            return self.draw_restrictions_of(facts, property, filler, numbers, older);
+        }
+        self.draw_listed(facts, listed, numbers, older)?;
+        Ok(())
+    }
+
+    /// Adds what the chains of the first property, and of the second or one above that, give from the facts.
+    fn draw_chains_of(
+        &self,
+        facts: &mut KnownFacts,
+        first: PropId2,
+        second: PropId2,
+        numbers: &[u32],
+        older: &[Fact],
+    ) -> Result<(), Stop>
+        requires derived { IsDerived self.now.problem.now facts.old }
+        requires older { AreAt facts.old.facts numbers.now older.now }
+        requires second { IsBehind second older.now }
+        requires has { Has self.now.closure.now second }
+        ensures { Draws self.now facts.old facts.new result (ChainsDrawn self.now.problem.now older.now facts.new.facts first) }
+    {
+        for above in self.closure.supers(second) {
+            let listed = self.problem.chains(first, *above);
+            self.draw_listed(facts, listed, numbers, older)?;
+        }
+        Ok(())
+    }
+
+    /// Adds what the chains that begin with the first property give from the facts, of which the second is an edge by the second property.
+    #[inline(always)]
+    fn draw_chains_from(
+        &self,
+        facts: &mut KnownFacts,
+        first: PropId2,
+        second: PropId2,
+        numbers: &[u32],
+        older: &[Fact],
+    ) -> Result<(), Stop>
+        requires derived { IsDerived self.now.problem.now facts.old }
+        requires older { AreAt facts.old.facts numbers.now older.now }
+        requires second { IsBehind second older.now }
+        requires has { Has self.now.closure.now second }
+        ensures { Draws self.now facts.old facts.new result (ChainsDrawn self.now.problem.now older.now facts.new.facts first) }
+    {
+        let listed = self.problem.chains_from(first);
+        if is_long(listed, self.closure.supers(second)) {
+            return self.draw_chains_of(facts, first, second, numbers, older);
+        }
+        self.draw_listed(facts, listed, numbers, older)?;
+        Ok(())
+    }
+
+    /// Adds what chains that begin with the first property, or one above it, give from the facts, of which the second is an edge by the
+    /// second property.
+    #[inline(always)]
+    pub(crate) fn draw_chains(
+        &self,
+        facts: &mut KnownFacts,
+        first: PropId2,
+        second: PropId2,
+        numbers: &[u32],
+        older: &[Fact],
+    ) -> Result<(), Stop>
+        requires derived { IsDerived self.now.problem.now facts.old }
+        requires older { AreAt facts.old.facts numbers.now older.now }
+        requires second { IsBehind second older.now }
+        requires has { Has self.now.closure.now first }
+        requires has_second { Has self.now.closure.now second }
+        ensures { Draws self.now facts.old facts.new result (AllChainsDrawn self.now.problem.now older.now facts.new.facts first) }
+    {
+        for above in self.closure.supers(first) {
+            self.draw_chains_from(facts, *above, second, numbers, older)?;
+        }
+        Ok(())
+    }
+
+    /// Adds what restrictions give from the facts, where they are an edge and a class in a context.
+    #[inline(always)]
+    fn draw_filled(
+        &self,
+        facts: &mut KnownFacts,
+        numbers: &[u32],
+        older: &[Fact],
+    ) -> Result<(), Stop>
+        requires derived { IsDerived self.now.problem.now facts.old }
+        requires older { AreAt facts.old.facts numbers.now older.now }
+        ensures { Draws self.now facts.old facts.new result (IsFillingDrawn self.now.problem.now older.now facts.new.facts) }
+    {
+        if let Some((property, filler)) = filled(older) {
+            self.draw_restrictions(facts, property, filler, numbers, older)?;
+        }
+        Ok(())
+    }
+
+    /// Adds what chains give from the facts, where they are two edges.
+    #[inline(always)]
+    fn draw_chained(
+        &self,
+        facts: &mut KnownFacts,
+        numbers: &[u32],
+        older: &[Fact],
+    ) -> Result<(), Stop>
+        requires derived { IsDerived self.now.problem.now facts.old }
+        requires older { AreAt facts.old.facts numbers.now older.now }
+        ensures { Draws self.now facts.old facts.new result (IsChainingDrawn self.now.problem.now older.now facts.new.facts) }
+    {
+        if let Some((first, second)) = chained(older) {
+            self.draw_chains(facts, first, second, numbers, older)?;
         }
         Ok(())
     }
@@ -188,9 +320,8 @@ impl Rules<'_> {
     {
         let visited = visited(self.problem, older);
         self.draw_visited(facts, visited.listed, visited.pair, numbers, older)?;
-        if let Some(property) = chained(older) {
-            self.draw_chains(facts, property, numbers, older)?;
-        }
+        self.draw_filled(facts, numbers, older)?;
+        self.draw_chained(facts, numbers, older)?;
         Ok(())
     }
 

@@ -7,10 +7,13 @@ ghost use Rattle.normal_forms.specs.declared.forms.Class2.{Class2 as Class3};
 ghost use Rattle.normal_forms.specs.declared.forms.Form.TheVariants as forms;
 ghost use Rattle.normal_forms.specs.Properties.{IsAtOrBelow};
 ghost use Rattle.normal_forms.specs.declared.forms.PropId2.{PropId2 as PropId3};
-ghost use Rattle.indexes.specs.Keys.{by_chain, by_filler, class_key, property_key};
+ghost use Rattle.axioms.specs.declared.ids.IndId.{IndId as IndId2};
+ghost use Rattle.facts.specs.declared.contexts.Context.TheVariants as the_contexts;
+ghost use Rattle.indexes.specs.FormsUnderKeys.{IsUnder};
+ghost use Rattle.indexes.specs.Keys.{by_chain, by_denied, by_filler, by_target, class_key, individual_key, property_key};
 ghost use Rattle.property_closure.specs.PropertyClosures.{Has};
 ghost use Rattle.inference.specs.PropertyClosures.{IsClosureOf};
-ghost use Rattle.inference.specs.Visits.{HaveAllVisited, IsNotCarried, NoneUnder, chained_pair, chained_property};
+ghost use Rattle.inference.specs.Visits.{HaveAllVisited, IsNotCarried, NoneUnder, chained_pair, chained_properties, filled_pair, filled_property};
 
 use crate::conclusions::NOTHING;
 use facts::{Context, Fact};
@@ -18,23 +21,60 @@ use indexes::{Candidates, IndexedProblem};
 use normal_forms::{Class2, Form, PropId2};
 use property_closure::PropertyClosure;
 
-/// The property of the first of two edges.
-fn chained_by(first: Fact, second: Fact) -> Option<PropId2>
+/// The properties of two edges.
+fn chained_by(first: Fact, second: Fact) -> Option<(PropId2, PropId2)>
     ensures { result ≡ chained_pair first second }
 {
     match (first, second) {
-        (Fact::Edge(_, property, _), Fact::Edge(..)) => Some(property),
+        (Fact::Edge(_, before, _), Fact::Edge(_, behind, _)) => Some((before, behind)),
         _ => None,
     }
 }
 
-/// The property of the first edge, where the facts are two edges.
-pub(crate) fn chained(older: &[Fact]) -> Option<PropId2>
-    ensures { result ≡ chained_property older.now }
+/// The properties of the facts, where they are two edges.
+pub(crate) fn chained(older: &[Fact]) -> Option<(PropId2, PropId2)>
+    ensures { result ≡ chained_properties older.now }
 {
     match *older {
         [first, second] => chained_by(first, second),
         _ => None,
+    }
+}
+
+/// The property of an edge, and the class that is put into a context behind it.
+fn filled_by(first: Fact, second: Fact) -> Option<(PropId2, Class2)>
+    ensures { result ≡ filled_pair first second }
+{
+    match (first, second) {
+        (Fact::Edge(_, property, _), Fact::In(filler, _)) => Some((property, filler)),
+        _ => None,
+    }
+}
+
+/// The property and the class of the facts, where they are an edge and a class in a context.
+pub(crate) fn filled(older: &[Fact]) -> Option<(PropId2, Class2)>
+    ensures { result ≡ filled_property older.now }
+{
+    match *older {
+        [first, second] => filled_by(first, second),
+        _ => None,
+    }
+}
+
+/// Whether it is less to look up the forms of each of the properties than to go over the list.
+pub(crate) fn is_long(list: &[u32], properties: &[PropId2]) -> bool {
+    list.len() / 4 > properties.len()
+}
+
+/// The forms that deny a pair of these contexts, where they are individuals.
+fn denied_between(problem: &IndexedProblem, source: Context, target: Context) -> &[u32]
+    ensures { (a b : IndId2) (n : ℕ) → source ≡ the_contexts.Individual a → target ≡ the_contexts.Individual b → IsUnder by_denied problem.now.forms (individual_key a) n → IsUnder by_target problem.now.forms (individual_key b) n → Contains result.now n }
+{
+    match (source, target) {
+        (Context::Individual(source), Context::Individual(target)) => {
+            problem.denied_between(source, target)
+        }
+        _ => &[],
     }
 }
 
@@ -44,23 +84,21 @@ fn visited_by_one(problem: &IndexedProblem, first: Fact) -> &[u32]
 {
     match first {
         Fact::In(class, _) => problem.alone(class),
-        Fact::Edge(Context::Individual(source), ..) => problem.denied(source),
-        Fact::Edge(..) => &[],
+        Fact::Edge(source, _, target) => denied_between(problem, source, target),
     }
 }
 
-/// The forms, but chains, that give something from two facts in this order.
+/// The forms, but chains and restrictions, that give something from two facts in this order.
 fn visited_by_two(problem: &IndexedProblem, first: Fact, second: Fact) -> Candidates<'_>
     ensures { HaveAllVisited problem.now (first ∷ second ∷ []) result.listed.now result.pair }
 {
     match (first, second) {
         (Fact::In(a, _), Fact::In(b, _)) => problem.intersections(a, b),
-        (Fact::Edge(..), Fact::In(filler, _)) => Candidates::of(problem.with_filler(filler)),
         _ => Candidates::of(&[]),
     }
 }
 
-/// The forms, but chains, that give something from the facts in their order.
+/// The forms, but chains and restrictions, that give something from the facts in their order.
 pub(crate) fn visited<'a>(problem: &'a IndexedProblem, older: &[Fact]) -> Candidates<'a>
     ensures { HaveAllVisited problem.now older.now result.listed.now result.pair }
 {

@@ -3,7 +3,7 @@ use Rattle.std.proofs.lemmas.Option.{slice_get-get_or, slice_get_within}
 use Rattle.indexes.specs.Disjoint.{operand_key}
 use Rattle.indexes.proofs.Counting.{few_of}
 use Rattle.indexes.proofs.Filling.{AreFilled, filled_under, full_under, has_place_under, none_filled_under}
-use Rattle.indexes.proofs.Listing.{listed_under}
+use Rattle.indexes.proofs.Listing.{full_ascend, listed_under}
 use Rattle.indexes.proofs.disjoint.places_listed.Goals as goal
 
 pub new-requires : goal.new-requires
@@ -28,9 +28,16 @@ filled-requires c =
     let all : c.loop-place.place ≡ length operands = omega (arith, c.loop-place.auto.place-end, c.loop-place-test.false) in
     full_under operand_key (slice_get operands) (length operands) c.loop-place.filling (subst (λ (n : ℕ). AreFilled operand_key (slice_get operands) (length operands) n c.loop-place.filling) all c.loop-place.invariant)
 
-pub returns : goal.returns
-returns c =
+pub returns-clause-listed : goal.returns-clause-listed
+returns-clause-listed c =
     let operands = c.args.operands.now in
     let all : c.loop-place.place ≡ length operands = omega (arith, c.loop-place.auto.place-end, c.loop-place-test.false) in
     listed_under operand_key (slice_get operands) (length operands) (slice_get_within operands) c.loop-place.filling c.filled.result
     (subst (λ (n : ℕ). AreFilled operand_key (slice_get operands) (length operands) n c.loop-place.filling) all c.loop-place.invariant) c.filled.ensures
+
+pub returns-clause-ascend : goal.returns-clause-ascend
+returns-clause-ascend c =
+    let operands = c.args.operands.now in
+    let all : c.loop-place.place ≡ length operands = omega (arith, c.loop-place.auto.place-end, c.loop-place-test.false) in
+    full_ascend c.loop-place.filling c.filled.result
+    (full_under operand_key (slice_get operands) (length operands) c.loop-place.filling (subst (λ (n : ℕ). AreFilled operand_key (slice_get operands) (length operands) n c.loop-place.filling) all c.loop-place.invariant)) c.filled.ensures

@@ -4,7 +4,7 @@ use Rattle.indexes.specs.Disjoint.{outside}
 use Rattle.indexes.proofs.Counting.{few_counted}
 use Rattle.indexes.proofs.Filling.{AreAllFilled, all_full, all_skipped, form_filled, has_places, none_filled}
 use Rattle.indexes.proofs.Indexing.{all_indexed}
-use Rattle.indexes.proofs.Listing.{all_listed}
+use Rattle.indexes.proofs.Listing.{all_ascend, all_listed}
 use Rattle.indexes.proofs.Walking.{form_outside, form_walked, outside_within, row_skipped, row_walked, walk_begins}
 use Rattle.indexes.proofs.form_index.listed.Goals as goal
 
@@ -74,5 +74,8 @@ returns c =
     let operands = c.args.operands.now in
     let there = outside forms operands in
     let all : c.loop-number.number ≡ length forms = omega (arith, c.loop-number-test.false, c.loop-number.invariant.within, c.len.ensures) in
-    all_indexed forms operands c.requires.rows c.requires.pairs c.filled.result
-    (all_listed there (length forms) (outside_within forms operands) c.loop-number.filling c.filled.result (subst (λ (n : ℕ). AreAllFilled there (length forms) n c.loop-number.filling) all c.loop-number.invariant.filled) c.filled.ensures)
+    let full = subst (λ (n : ℕ). AreAllFilled there (length forms) n c.loop-number.filling) all c.loop-number.invariant.filled in
+    all_indexed forms operands c.requires.rows c.requires.pairs c.filled.result c.put_in_order.result
+    (all_listed there (length forms) (outside_within forms operands) c.loop-number.filling c.filled.result full c.filled.ensures)
+    (all_ascend c.loop-number.filling c.filled.result (all_full there (length forms) c.loop-number.filling full) c.filled.ensures)
+    c.put_in_order.ensures

@@ -1,6 +1,5 @@
-use Rattle.std.proofs.Common.{[], ◌∷◌, refl, sym, subst}
-use Rattle.facts.specs.declared.contexts.Fact.{Fact}
-use Rattle.inference.specs.Visits.{AllChainsDrawn, IsBy}
+use Rattle.std.proofs.Common.{[], ◌∷◌, refl}
+use Rattle.inference.specs.Visits.{IsBy}
 use Rattle.inference.proofs.Drawing.{drawn_by_two, draws}
 use Rattle.inference.proofs.Edges.{property_there}
 use Rattle.inference.proofs.Visiting.{edges_drawn}
@@ -8,13 +7,18 @@ use Rattle.inference.proofs.rules.Rules.draw_edges.Goals as goal
 
 pub draw_chains-requires-clause-has : goal.draw_chains-requires-clause-has
 draw_chains-requires-clause-has c =
-    let by : IsBy c.in-Edge.property c.args.f = rw c.in-Edge.is refl in
-    property_there c.args.self.now.problem.now c.args.self.now.closed c.requires.derived c.args.m c.args.f c.in-Edge.property c.requires.first by
+    let by : IsBy c.in-Edge-Edge.first c.args.f = rw c.in-Edge-Edge.is-0 refl in
+    property_there c.args.self.now.problem.now c.args.self.now.closed c.requires.derived c.args.m c.args.f c.in-Edge-Edge.first c.requires.first by
+
+pub draw_chains-requires-clause-has_second : goal.draw_chains-requires-clause-has_second
+draw_chains-requires-clause-has_second c =
+    let by : IsBy c.in-Edge-Edge.second c.args.g = rw c.in-Edge-Edge.is-1 refl in
+    property_there c.args.self.now.problem.now c.args.self.now.closed c.requires.derived c.args.n c.args.g c.in-Edge-Edge.second c.requires.second by
 
 pub returns-in_ok-draw_chains : goal.returns-in_ok-draw_chains
 returns-in_ok-draw_chains c =
     let k = c.args.self.now.problem.now in
     let facts = c.draw_chains.new.facts.facts in
-    let by : IsBy c.in-Edge.property c.args.f = rw c.in-Edge.is refl in
-    draws c.draw_chains.ensures.grows (drawn_by_two k c.args.f c.args.g facts (edges_drawn k c.args.f c.args.g c.in-Edge.property facts by c.requires.other
-    (subst (λ (f : Fact). AllChainsDrawn k (f ∷ c.args.g ∷ []) facts c.in-Edge.property) (sym c.in-Edge.is) c.in_ok-draw_chains.ensures.drawn)))
+    let by : IsBy c.in-Edge-Edge.first c.args.f = rw c.in-Edge-Edge.is-0 refl in
+    draws c.draw_chains.ensures.grows (drawn_by_two k c.args.f c.args.g facts (edges_drawn k c.args.f c.args.g c.in-Edge-Edge.first facts by c.requires.other
+    c.in_ok-draw_chains.ensures.drawn))
