@@ -1,5 +1,5 @@
 -- What an index of forms finds.
-use Rattle.std.proofs.Common.{◌≡◌, ◌↔◌, ℕ, ◌≤◌, ◌⊎◌, inl, inr, ⊎_elim, List, slice_get, Option, Some, None, Contains, IfSome, IsNone, refl, sym, ap, subst, ◌∙◌}
+use Rattle.std.proofs.Common.{◌≡◌, ℕ, ◌≤◌, ◌⊎◌, inl, inr, ⊎_elim, List, slice_get, Option, Some, None, Contains, IfSome, IsNone, refl, sym, ap, subst, ◌∙◌}
 use Rattle.axioms.specs.declared.ids.ExprId.{ExprId}
 use Rattle.normal_forms.specs.declared.forms.Class2.TheVariants.{Expr}
 use Rattle.normal_forms.specs.declared.forms.Form.{Form}
@@ -50,10 +50,10 @@ same_class c d k e f = let g : c.0 ≡ d.0 = cc in ap (λ (v : ℕ). let e : Exp
 
 module _ (forms : List Form) (operands : List Operand) (rows : AreRows operands) (are : ArePairsOf forms operands) where
   -- the form of a pair has the keys of its classes
-  pair_form : {P Q : ℕ → Type 0} {n : ℕ} (w : IsPair operands P Q n) → slice_get forms n ≡ Some (disjoint_form w.a.class w.b.class)
+  pub pair_form : {P Q : ℕ → Type 0} {n : ℕ} (w : IsPair operands P Q n) → slice_get forms n ≡ Some (disjoint_form w.a.class w.b.class)
   pair_form w = ap (slice_get forms) w.number ∙ are.paired w.p w.q w.a w.b w.behind
 
-  class_at : (k : Key) (p : ℕ) (a : Operand) → slice_get operands p ≡ Some a → IsOf operands k p → operand_key a ≡ Some k
+  pub class_at : (k : Key) (p : ℕ) (a : Operand) → slice_get operands p ≡ Some a → IsOf operands k p → operand_key a ≡ Some k
   class_at k p a at w = ap operand_key (same_Some a w.0 (sym at ∙ w.1)) ∙ w.2
 
   pub pair_first : {Q : ℕ → Type 0} {n : ℕ} (k : Key) → IsPair operands (IsOf operands k) Q n → IsUnder by_first forms k n
@@ -116,7 +116,7 @@ module _ (forms : List Form) (operands : List Operand) (rows : AreRows operands)
     there : (n : ℕ) → Contains list n → Contains (at_key lists k) n
     there n c = subst (λ (l : List ℕ). Contains l n) is c
 
-    back : (n : ℕ) → Contains (at_key lists k) n → Contains list n
+    pub back : (n : ℕ) → Contains (at_key lists k) n → Contains list n
     back n c = subst (λ (l : List ℕ). Contains l n) (sym is) c
 
     module _ (listed : ListsNumbers by_first (outside forms operands) lists) where
@@ -126,18 +126,12 @@ module _ (forms : List Form) (operands : List Operand) (rows : AreRows operands)
       pub none_first : ((n : ℕ) → Contains list n → ⊥) → ((n : ℕ) → IsPair operands (IsOf operands k) IsAny n → ⊥) → (n : ℕ) → IsUnder by_first forms k n → ⊥
       none_first none no_pair n w = ⊎_elim (λ h. none n (back n ((listed k n).1 h))) (λ p. no_pair n p) (first_cases k n w)
 
-      pub few_first : ((p : ℕ) → IsOf operands k p → ⊥) → (n : ℕ) → Contains list n ↔ IsUnder by_first forms k n
-      few_first unlisted n = (first_under n, λ w. ⊎_elim (λ h. back n ((listed k n).1 h)) (λ p. absurd (unlisted p.p p.first)) (first_cases k n w))
-
     module _ (listed : ListsNumbers by_second (outside forms operands) lists) where
       pub second_under : (n : ℕ) → Contains list n → IsUnder by_second forms k n
       second_under n c = outside_second k n ((listed k n).0 (there n c))
 
       pub none_second : ((n : ℕ) → Contains list n → ⊥) → ((n : ℕ) → IsPair operands IsAny (IsOf operands k) n → ⊥) → (n : ℕ) → IsUnder by_second forms k n → ⊥
       none_second none no_pair n w = ⊎_elim (λ h. none n (back n ((listed k n).1 h))) (λ p. no_pair n p) (second_cases k n w)
-
-      pub few_second : ((p : ℕ) → IsOf operands k p → ⊥) → (n : ℕ) → Contains list n ↔ IsUnder by_second forms k n
-      few_second unlisted n = (second_under n, λ w. ⊎_elim (λ h. back n ((listed k n).1 h)) (λ p. absurd (unlisted p.q p.second)) (second_cases k n w))
 
   -- where the least pair is found
   like_least : (k l : Key) (pair : Option ℕ) → IfSome pair (λ m. IsPair operands (IsOf operands k) (IsOf operands l) m) → IfSome pair (λ m. (n : ℕ) → IsPair operands (IsOf operands k) (IsOf operands l) n → m ≤ n)

@@ -9,6 +9,8 @@ pub mod Rows
 pub mod Walking
 pub mod Pairing
 pub mod Indexing
+pub mod Sides
+pub mod Parting
 pub mod Paths
 pub mod Grouping
 pub mod Order

@@ -1,10 +1,11 @@
 -- Operands of lists of disjoint classes, one behind the other.
-use Rattle.std.specs.Prelude.{◌≡◌, ℕ, ◌+◌, ◌-◌, ◌<◌, ◌≤◌, Bool, false, cond, ltb, List, [], ◌∷◌, length, slice_get, Option, Some, None}
-use Rattle.std.specs.List.{list_any}
+use Rattle.std.specs.Prelude.{◌≡◌, ℕ, ◌+◌, ◌-◌, ◌<◌, ◌≤◌, ◌⊎◌, Bool, false, cond, ltb, List, [], ◌∷◌, length, slice_get, Option, Some, None}
+use Rattle.std.specs.List.{list_any, Contains}
 use Rattle.axioms.specs.declared.ids.ExprId.{ExprId}
 use Rattle.normal_forms.specs.declared.forms.Class2.TheVariants.{Expr}
 use Rattle.normal_forms.specs.declared.forms.Form.{Form}
 use Rattle.normal_forms.specs.Pairs.{disjoint_form}
+use Rattle.indexes.specs.declared.disjoint.Beside.{Beside}
 use Rattle.indexes.specs.declared.disjoint.Operand.{Operand}
 use Rattle.indexes.specs.declared.keys.Key.{Key}
 use Rattle.indexes.specs.Keys.{class_key}
@@ -72,3 +73,20 @@ outside forms operands n = cond (list_any (is_in_row n) operands) None (slice_ge
 pub record AreWalked (operands : List Operand) (place number : ℕ) : Type 0 where
   pub past : (p : ℕ) (a : Operand) → slice_get operands p ≡ Some a → p < place → a.row + a.behind ≤ number
   pub ahead : (p : ℕ) (a : Operand) → slice_get operands p ≡ Some a → place ≤ p → number ≤ a.row
+
+-- the operand at p is the first of those with which the one at the place is in one list
+pub record IsFirstOf (operands : List Operand) (place p : ℕ) : Type 0 where
+  pub below : p ≤ place
+  pub each : (q : ℕ) (a : Operand) → slice_get operands q ≡ Some a → p ≤ q → q < place → place ≤ q + a.behind
+  pub all : (q : ℕ) (a : Operand) → slice_get operands q ≡ Some a → q < place → place ≤ q + a.behind → p ≤ q
+
+-- the operand at q is in one list with that at p, before it or behind it
+abbrev pub IsWith : List Operand → ℕ → ℕ → Operand → Type 0
+IsWith operands p q b = ((a : Operand) × IsBehind operands p q a b) ⊎ ((a : Operand) × IsBehind operands q p b a)
+
+abbrev pub IsBeside : Beside → Operand → Type 0
+IsBeside beside b = Contains beside.before.now b ⊎ Contains beside.behind.now b
+
+-- the two keys are those of operands at two places of one list, in either order
+abbrev pub AreOfOneList : List Operand → Key → Key → Type 0
+AreOfOneList operands k l = ((n : ℕ) × IsPair operands (IsOf operands k) (IsOf operands l) n) ⊎ ((n : ℕ) × IsPair operands (IsOf operands l) (IsOf operands k) n)

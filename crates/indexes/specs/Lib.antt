@@ -10,6 +10,7 @@ pub mod Counts
 pub mod KeyFillings
 pub mod Lists
 pub mod Disjoint
+pub mod Apart
 pub mod FormIndex
 pub mod Groups
 pub mod Roots

@@ -4,7 +4,8 @@ ghost use Rattle.std.specs.List.Sorted.{IsNonDecreasing};
 ghost use Rattle.normal_forms.specs.Pairs.{disjoint_form, pairs};
 ghost use Rattle.indexes.specs.declared.disjoint.Operand.{Operand as Operand2};
 ghost use Rattle.indexes.specs.Counts.{AreCountsOf};
-ghost use Rattle.indexes.specs.Disjoint.{operand_key, rows_of, AreRows, ArePairsOf, IsAny, IsOf, IsPair};
+ghost use Rattle.indexes.specs.declared.keys.Key.{Key as Key2};
+ghost use Rattle.indexes.specs.Disjoint.{operand_key, rows_of, AreOfOneList, AreRows, ArePairsOf, IsAny, IsBeside, IsFirstOf, IsOf, IsPair, IsWith};
 ghost use Rattle.indexes.specs.FormIndex.{Ascend, ListsNumbers};
 
 use crate::key_counts::KeyCounts;
@@ -18,12 +19,19 @@ use std::marker::Model;
 
 /// A class of such a list.
 #[derive(Clone, Copy)]
-pub(crate) struct Operand {
+pub struct Operand {
     pub class: ExprId,
     /// The number of its form with the next class of the list; its forms with the classes behind that follow.
-    pub row: u32,
+    pub(crate) row: u32,
     /// How many classes of the list are behind it.
-    pub behind: u32,
+    pub(crate) behind: u32,
+}
+
+/// The other classes of a list that a class is in.
+#[derive(Clone, Copy)]
+pub struct Beside<'a> {
+    pub before: &'a [Operand],
+    pub behind: &'a [Operand],
 }
 
 /// The classes of all the lists, one list behind the other, and at which places among them each class is.
@@ -214,6 +222,40 @@ fn least_pair(operands: &[Operand], firsts: &[u32], seconds: &[u32]) -> Option<u
     None
 }
 
+/// The place of the first operand of the list that has one at that place, if at most so many are before that.
+fn first_of(operands: &[Operand], place: usize, most: usize) -> Option<usize>
+    requires rows { AreRows operands.now }
+    requires there { place < length operands.now }
+    ensures { IfSome result (λ first. IsFirstOf operands.now place first) }
+{
+    let mut first = place;
+    while first > 0 && operands[first - 1].behind > 0 {
+        if place - first >= most {
+            return None;
+        }
+        first -= 1;
+    }
+    Some(first)
+}
+
+/// The operands beside that at the place in its list, if they are at most so many.
+fn both_sides(operands: &[Operand], place: usize, most: usize) -> Option<Beside<'_>>
+    requires rows { AreRows operands.now }
+    requires there { place < length operands.now }
+    ensures all { IfSome result (λ beside. (q : ℕ) (b : Operand2) → IsWith operands.now place q b → IsBeside beside b) }
+    ensures only { IfSome result (λ beside. (b : Operand2) → IsBeside beside b → (q : ℕ) × IsWith operands.now place q b) }
+{
+    let end = place + operands[place].behind as usize + 1;
+    let first = first_of(operands, place, most)?;
+    if end - first - 1 > most {
+        return None;
+    }
+    Some(Beside {
+        before: &operands[first..place],
+        behind: &operands[place + 1..end],
+    })
+}
+
 impl Disjointness {
     /// No lists.
     pub(crate) fn new(alloc: Global) -> Self
@@ -280,5 +322,16 @@ impl Disjointness {
             self.places.of(first),
             self.places.of(second),
         )
+    }
+
+    /// The operands beside the class of that key, if it is at one place of the lists, and if they are at most so many.
+    pub(crate) fn beside(&self, key: Key, most: usize) -> Option<Beside<'_>>
+        ensures all { IfSome result (λ beside. (l : Key2) → AreOfOneList self.now key l → (b : Operand2) × (operand_key b ≡ Some l) × IsBeside beside b) }
+        ensures only { IfSome result (λ beside. (l : Key2) (b : Operand2) → operand_key b ≡ Some l → IsBeside beside b → AreOfOneList self.now key l) }
+    {
+        match *self.places.of(key) {
+            [place] => both_sides(&self.operands, place as usize, most),
+            _ => None,
+        }
     }
 }

@@ -1,12 +1,15 @@
 //! A problem whose forms are found by key.
 ghost use Rattle.std.specs.Prelude.{◌≡◌, ◌<◌, ◌↔◌, ◌⊎◌, ◌++◌, [], ℕ, Contains, IfOk, IfSome, None, Some, false, slice_get, true};
 ghost use Rattle.axioms.specs.declared.ids.ExprId.{ExprId as ExprId2};
+ghost use Rattle.normal_forms.specs.declared.forms.Class2.{Class2 as Class3};
 ghost use Rattle.normal_forms.specs.declared.forms.Class2.TheVariants as classes;
 ghost use Rattle.indexes.specs.declared.keys.Key.{Key as Key2};
 ghost use Rattle.indexes.specs.declared.keys.Key.TheVariants as keys;
 ghost use Rattle.indexes.specs.Keys.{class_key, property_key, individual_key, by_kind, by_alone, by_first, by_second, by_filler, by_chain, by_end, by_plain, by_linked_first, by_linked_second, by_denied, by_restricted, by_target};
+ghost use Rattle.indexes.specs.Apart.{AreDisjoint, HasFirst, HasSecond, IsApart};
 ghost use Rattle.indexes.specs.FormsUnderKeys.{IsLikeFirst, IsUnder};
 
+use crate::apart::Apart;
 use crate::disjoint::Disjointness;
 use crate::form_index::{listed, nothing_listed};
 use crate::key_lists::KeyLists;
@@ -49,13 +52,16 @@ impl<'a> Candidates<'a> {
     }
 }
 
-/// All intersections that have a class, by the numbers of their forms.
+/// All intersections that have a class: those that are listed, by the numbers of their forms, and those that say, as ones of a list of
+/// disjoint classes, that it is disjoint with another.
 #[derive(Clone, Copy)]
 pub struct FewIntersections<'a> {
     /// Those of that first class.
     pub first: &'a [u32],
     /// Those of that second class.
     pub second: &'a [u32],
+    /// The classes with which lists say that it is disjoint.
+    pub apart: Apart<'a>,
 }
 
 // A value is let go by one call, where each way out would else let each field go.
@@ -198,21 +204,28 @@ impl IndexedProblem {
         is_used(self.index.second.of(key)) || self.disjoint.ends(key)
     }
 
-    /// The intersections of that class, if there are at most so many. It may give none where a list of disjoint classes has the class.
+    /// The intersections of that class, if at most so many are listed. Those of lists of disjoint classes are not listed: they say with
+    /// which classes it is disjoint.
     pub fn few_intersections(&self, class: Class2, most: usize) -> Option<FewIntersections<'_>>
-        ensures first { IfSome result (λ few. (n : ℕ) → Contains few.first.now n ↔ IsUnder by_first self.now.forms (class_key class) n) }
-        ensures second { IfSome result (λ few. (n : ℕ) → Contains few.second.now n ↔ IsUnder by_second self.now.forms (class_key class) n) }
+        ensures first { IfSome result (λ few. HasFirst self.now.forms class few.apart few.first.now) }
+        ensures only_first { IfSome result (λ few. (n : ℕ) → Contains few.first.now n → IsUnder by_first self.now.forms (class_key class) n) }
+        ensures second { IfSome result (λ few. HasSecond self.now.forms class few.apart few.second.now) }
+        ensures only_second { IfSome result (λ few. (n : ℕ) → Contains few.second.now n → IsUnder by_second self.now.forms (class_key class) n) }
+        ensures apart { IfSome result (λ few. (b : Class3) → IsApart few.apart b → AreDisjoint self.now.forms class b) }
     {
         let key = key_of_class(class);
-        if self.disjoint.has(key) {
-            return None;
-        }
         let first = self.index.first.of(key);
         let second = self.index.second.of(key);
         if first.len().saturating_add(second.len()) > most {
             return None;
         }
-        Some(FewIntersections { first, second })
+        let lists = &self.disjoint;
+        let apart = Apart { lists, key };
+        Some(FewIntersections {
+            first,
+            second,
+            apart,
+        })
     }
 
     /// Intersections of that first class, or of that second class, with all that have both: none are listed where those of one of the two

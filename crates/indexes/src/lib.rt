@@ -2,6 +2,7 @@
 //! individuals of the facts that they give something with, and which individuals are one.
 #![tactic(auto)]
 
+mod apart;
 mod by_context;
 mod disjoint;
 mod form_counts;
@@ -21,6 +22,8 @@ mod same_individuals;
 mod seconds;
 mod table;
 
+pub use apart::Apart;
+pub use disjoint::{Beside, Operand};
 pub use index::Index;
 pub use indexed_problem::{Candidates, FewIntersections, IndexedProblem};
 pub use keys::Key;

@@ -7,6 +7,7 @@ pub mod Drawing
 pub mod Handing
 pub mod Giving
 pub mod Intersections
+pub mod Parting
 pub mod Visiting
 pub mod Edges
 pub mod Below

@@ -8,3 +8,4 @@ pub mod Draws
 pub mod Sameness
 pub mod Marks
 pub mod Joins
+pub mod Partings

@@ -1,6 +1,7 @@
 //! The facts so far, and what the rules give from them.
 #![tactic(auto)]
 
+mod apart;
 mod conclusions;
 mod entries;
 mod joins;

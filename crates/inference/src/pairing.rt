@@ -42,7 +42,7 @@ impl Rules<'_> {
     }
 
     /// Adds what two facts give in this order, if they may give anything.
-    fn draw_pair(
+    pub(crate) fn draw_pair(
         &self,
         facts: &mut KnownFacts,
         m: u32,
@@ -173,8 +173,8 @@ impl Rules<'_> {
         Ok(())
     }
 
-    /// Adds what the class in a context gives with the other classes in it, which have those numbers: by the intersections that have
-    /// the class as an operand, or by the other classes, whichever are fewer.
+    /// Adds what the class in a context gives with the other classes in it, which have those numbers: by the intersections that are
+    /// listed for the class and by the lists of disjoint classes that it is in, or by the other classes, whichever are fewer.
     fn meet_classes(
         &self,
         facts: &mut KnownFacts,
@@ -189,7 +189,10 @@ impl Rules<'_> {
         ensures { Draws self.now facts.old facts.new result (AreMet self.now.problem.now (In class context) facts.old.facts numbers.now facts.new) }
     {
         match self.problem.few_intersections(class, numbers.len()) {
-            Some(few) => self.meet_operands(facts, few.first, few.second, context)?,
+            Some(few) => {
+                self.meet_operands(facts, few.first, few.second, context)?;
+                self.meet_apart(facts, hand, class, context, &few.apart, numbers)?;
+            }
             None => self.meet_all(facts, hand, Fact::In(class, context), numbers)?,
         }
         Ok(())
