@@ -12,6 +12,7 @@ mod order;
 mod other_texts;
 mod reading;
 mod rules;
+mod wide_rows;
 
 use crate::documents::ontology_of;
 use crate::sources::Pieces;

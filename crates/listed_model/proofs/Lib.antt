@@ -7,3 +7,4 @@ pub mod Walks
 pub mod Said
 pub mod Holding
 pub mod Keys
+pub mod Covering

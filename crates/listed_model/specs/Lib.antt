@@ -4,3 +4,4 @@ pub mod Members
 pub mod Rows
 pub mod Extensions
 pub mod PropertyTests
+pub mod WideRows

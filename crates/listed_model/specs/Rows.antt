@@ -38,6 +38,10 @@ abbrev pub HasListedPath : List (ℕ × ℕ × List ℕ) → List ℕ → ℕ �
 HasListedPath rows [] x y = x ≡ y
 HasListedPath rows (r ∷ rs) x y = (z : ℕ) × (holds (targets_of rows r x) z ≡ true) × HasListedPath rows rs z y
 
+-- the ends are those of the paths along the properties from one of the sources
+abbrev pub AreEnds : List (ℕ × ℕ × List ℕ) → List ℕ → List ℕ → List ℕ → Type 0
+AreEnds rows rs sources ends = (y : ℕ) → (holds ends y ≡ true) ↔ ((x : ℕ) × (holds sources x ≡ true) × HasListedPath rows rs x y)
+
 -- each pair of the property r is one of the property s
 abbrev pub LiesWithin : List (ℕ × ℕ × List ℕ) → ℕ → ℕ → Type 0
 LiesWithin rows r s = (x y : ℕ) → holds (targets_of rows r x) y ≡ true → holds (targets_of rows s x) y ≡ true

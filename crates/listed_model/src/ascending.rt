@@ -1,6 +1,6 @@
 //! Ascending lists of numbers.
 ghost use Rattle.listed_model.specs.Members.{holds};
-ghost use Rattle.std.specs.List.{list_all, list_any};
+ghost use Rattle.std.specs.List.{list_all};
 ghost use Rattle.std.specs.List.Sorted.{IsNonDecreasing, IsPartitionPoint, IsStrictlyIncreasing};
 ghost use Rattle.std.specs.Prelude.{◌<◌, ◌≡◌, ◌≤◌, ◌↔◌, IfOk, false, filter, length, nat_lt, true, ℕ};
 
@@ -28,19 +28,6 @@ pub(crate) fn are_within(few: &[u32], list: &[u32]) -> bool
     true
 }
 
-/// Whether one of the few stands in the ascending list.
-pub(crate) fn have_common(few: &[u32], list: &[u32]) -> bool
-    requires { IsStrictlyIncreasing list.now }
-    ensures { result ≡ list_any (holds list.now) few.now }
-{
-    for number in few {
-        if stands_in(list, *number) {
-            return true;
-        }
-    }
-    false
-}
-
 /// Those of the few that stand in the ascending list.
 pub(crate) fn common(alloc: Global, few: &[u32], list: &[u32]) -> Result<Vec<u32>, Memory>
     requires { IsStrictlyIncreasing list.now }
@@ -55,8 +42,8 @@ pub(crate) fn common(alloc: Global, few: &[u32], list: &[u32]) -> Result<Vec<u32
     Ok(both)
 }
 
-// How many of the ascending numbers are below the bound.
-fn count_below(numbers: &[u32], bound: usize) -> usize
+/// How many of the ascending numbers are below the bound.
+pub(crate) fn count_below(numbers: &[u32], bound: usize) -> usize
     requires { IsNonDecreasing numbers.now }
     ensures within { result ≤ length numbers.now }
     ensures place { IsPartitionPoint (λ k. nat_lt k bound ≡ true) (λ k. nat_lt k bound ≡ false) numbers.now result }

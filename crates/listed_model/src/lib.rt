@@ -5,6 +5,7 @@ mod ascending;
 mod class_axioms;
 mod extension;
 mod individual_axioms;
+mod meeting;
 mod paths;
 mod property_axioms;
 mod restriction;
@@ -13,5 +14,7 @@ mod satisfaction;
 mod sets;
 mod shown;
 mod transitive;
+mod wide;
+mod wide_steps;
 
 pub use satisfaction::first_unsatisfied;

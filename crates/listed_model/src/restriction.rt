@@ -5,9 +5,10 @@ ghost use Rattle.listed_model.specs.Members.{holds};
 ghost use Rattle.listed_model.specs.Rows.{AreHolders, ArePairRows, IsHolders, IsSourceAmong, Joined};
 ghost use Rattle.number_sets.specs.Pieces.{list_at};
 ghost use Rattle.std.specs.List.Sorted.{IsStrictlyIncreasing};
-ghost use Rattle.std.specs.Prelude.{◌<◌, ◌≡◌, ◌↔◌, ◌⊎◌, All, IfOk, OnOk, length, map, true, ℕ};
+ghost use Rattle.std.specs.Prelude.{◌<◌, ◌≡◌, ◌↔◌, ◌⊎◌, All, IfOk, IfSome, OnOk, length, map, true, ℕ};
 
-use crate::ascending::{between, have_common, put_in_order};
+use crate::ascending::{between, put_in_order};
+use crate::meeting::have_common;
 use crate::rows::{end_of, rows_of, start_of};
 use axioms::{Memory, PropId};
 use certificate::PairRow;
@@ -52,27 +53,32 @@ fn add_sources(sources: &mut Vec<u32>, rows: &[PairRow], places: &[u32]) -> Resu
     Ok(())
 }
 
-// The elements that the property joins to one of the fillers, by the fillers. The rows of the property stand together, so of the
-// places of a filler's rows those that are of the property do, too.
+// The elements that the property joins to one of the fillers, by the fillers; none where more rows have fillers than the property
+// has, each counted once for each filler. The rows of the property stand together, so of the places of a filler's rows those that
+// are of the property do, too.
 fn by_fillers(
     alloc: Global,
     rows: &[PairRow],
     holders: &PackedLists,
     property: PropId,
     fillers: &[u32],
-) -> Result<Vec<u32>, Memory>
+) -> Result<Option<Vec<u32>>, Memory>
     requires rows { ArePairRows rows.now }
     requires holders { (y : ℕ) → holds fillers.now y ≡ true → IsHolders rows.now y (list_at holders.now y) }
-    ensures { IfOk result (λ sources. (x : ℕ) → (holds sources.items x ≡ true) ↔ Joined (map pair_row_of rows.now) property.0 fillers.now x) }
+    ensures { IfOk result (λ found. IfSome found (λ sources. (x : ℕ) → (holds sources.items x ≡ true) ↔ Joined (map pair_row_of rows.now) property.0 fillers.now x)) }
 {
+    let most = rows_of(rows, property).len();
     let start = start_of(rows, property);
     let end = end_of(rows, property);
     let mut sources = Vec::new(alloc);
     for filler in fillers {
         let places = between(holders.at(*filler as usize), start, end);
         add_sources(&mut sources, rows, places)?;
+        if sources.len() > most {
+            return Ok(None);
+        }
     }
-    Ok(sources)
+    Ok(Some(sources))
 }
 
 // The elements that the property joins to one of the fillers, by the rows of the property.
@@ -95,6 +101,27 @@ fn by_rows(
     Ok(sources)
 }
 
+// The elements that the property joins to one of the fillers, by what is less work.
+fn by_either(
+    alloc: Global,
+    rows: &[PairRow],
+    holders: &PackedLists,
+    property: PropId,
+    fillers: &[u32],
+) -> Result<Vec<u32>, Memory>
+    requires rows { ArePairRows rows.now }
+    requires fillers { IsStrictlyIncreasing fillers.now }
+    requires holders { (y : ℕ) → holds fillers.now y ≡ true → IsHolders rows.now y (list_at holders.now y) }
+    ensures { IfOk result (λ sources. (x : ℕ) → (holds sources.items x ≡ true) ↔ Joined (map pair_row_of rows.now) property.0 fillers.now x) }
+{
+    if fillers.len() < rows_of(rows, property).len() {
+        if let Some(sources) = by_fillers(alloc, rows, holders, property, fillers)? {
+            return Ok(sources);
+        }
+    }
+    by_rows(alloc, rows, property, fillers)
+}
+
 /// The elements that the property joins to one of the fillers, ascending.
 pub(crate) fn restriction(
     alloc: Global,
@@ -109,12 +136,7 @@ pub(crate) fn restriction(
     ensures ascending { IfOk result (λ sources. IsStrictlyIncreasing sources.items) }
     ensures members { IfOk result (λ sources. (x : ℕ) → (holds sources.items x ≡ true) ↔ Joined (map pair_row_of rows.now) property.0 fillers.now x) }
 {
-    let few = fillers.len() < rows_of(rows, property).len();
-    let mut sources = if few {
-        by_fillers(alloc, rows, holders, property, fillers)?
-    } else {
-        by_rows(alloc, rows, property, fillers)?
-    };
+    let mut sources = by_either(alloc, rows, holders, property, fillers)?;
     put_in_order(&mut sources);
     Ok(sources)
 }

@@ -1,7 +1,9 @@
 //! Whether a property is transitive, without walking each path of two steps.
-ghost use Rattle.certificate.specs.View.{pair_row_of};
+ghost use Rattle.certificate.specs.View.{pair_row_of, targets_in};
+ghost use Rattle.listed_model.specs.Listing.{targets_of};
 ghost use Rattle.listed_model.specs.Members.{holds};
 ghost use Rattle.listed_model.specs.Rows.{ArePairRows, ClosedAt, LeadsWithin};
+ghost use Rattle.listed_model.specs.WideRows.{AreClosed, AreWide};
 ghost use Rattle.number_sets.specs.Members.{has};
 ghost use Rattle.std.specs.List.Sorted.{IsStrictlyIncreasing};
 ghost use Rattle.std.specs.Prelude.{◌<◌, ◌≡◌, ◌↔◌, All, IfOk, IsTrue, length, map, true, ℕ};
@@ -9,6 +11,8 @@ ghost use Rattle.std.specs.Prelude.{◌<◌, ◌≡◌, ◌↔◌, All, IfOk, Is
 use crate::ascending::are_within;
 use crate::rows::{rows_of, targets_at};
 use crate::sets::put_each;
+use crate::wide::{WideRow, wide_at, wide_rows};
+use crate::wide_steps::lead_into;
 use axioms::{Memory, PropId};
 use certificate::PairRow;
 use number_sets::EpochSet;
@@ -109,9 +113,41 @@ fn places_by_size(alloc: Global, rows: &[PairRow]) -> Result<Vec<usize>, Memory>
     Ok(places)
 }
 
+// Whether the property leads from the targets of the row to nothing but these, where it does so from the last targets.
+fn is_row_closed(
+    alloc: Global,
+    rows: &[PairRow],
+    wide: &[WideRow],
+    covered: &mut EpochSet,
+    done: &EpochSet,
+    property: PropId,
+    last: &[u32],
+    row: &PairRow,
+) -> Result<bool, Memory>
+    requires rows { ArePairRows rows.now }
+    requires wide { AreWide (map pair_row_of rows.now) (length done.now) wide.now }
+    requires done { (y : ℕ) → has done.now y ≡ true → ClosedAt (map pair_row_of rows.now) property.0 y }
+    requires last { AreClosed (map pair_row_of rows.now) property.0 last.now }
+    requires row { targets_of (map pair_row_of rows.now) property.0 row.now.source ≡ targets_in row.now.targets }
+    requires ascending { IsStrictlyIncreasing (targets_in row.now.targets) }
+    ensures len { length covered.new ≡ length covered.old }
+    ensures closed { IfOk result (λ closed. IsTrue closed ↔ AreClosed (map pair_row_of rows.now) property.0 (targets_in row.now.targets)) }
+{
+    let targets = row.targets.as_slice();
+    if targets == last {
+        return Ok(true);
+    }
+    let ordered = widest_first(alloc, rows, property, targets)?;
+    match wide_at(wide, property, row.source) {
+        Some(own) => lead_into(alloc, rows, wide, done, property, &ordered, &own.targets),
+        None => Ok(leads_within(rows, property, done, covered, &ordered, targets)),
+    }
+}
+
 /// Whether the property leads in one step to all that it leads to in two. The sets are room to work in.
 ///
-/// Rows with few targets come first, so that of a row with many those that have most are done, and all else is covered.
+/// Rows with few targets come first, so that of a row with many those that have most are done, and all else is covered. Of rows
+/// with the same targets that come one after the other the first alone is tested.
 pub(crate) fn is_transitive(
     alloc: Global,
     rows: &[PairRow],
@@ -125,20 +161,15 @@ pub(crate) fn is_transitive(
 {
     done.clear();
     let items = rows_of(rows, property);
+    let wide = wide_rows(alloc, rows, items.len(), &[property], done.len())?;
     let places = places_by_size(alloc, items)?;
+    let mut last: &[u32] = &[];
     for place in &places {
         let row = &items[*place];
-        let ordered = widest_first(alloc, rows, property, row.targets.as_slice())?;
-        if !leads_within(
-            rows,
-            property,
-            done,
-            covered,
-            &ordered,
-            row.targets.as_slice(),
-        ) {
+        if !is_row_closed(alloc, rows, &wide, covered, done, property, last, row)? {
             return Ok(false);
         }
+        last = row.targets.as_slice();
         done.put(row.source as usize);
     }
     Ok(true)

@@ -1,8 +1,10 @@
-use Rattle.std.proofs.Common.{◌≡◌, Some, slice_get, sym, ap, ◌∙◌, inl, inr, true≢false}
+use Rattle.std.proofs.Common.{◌≡◌, Some, slice_get, sym, ap, ◌∙◌, subst, inl, inr, true≢false}
 use Rattle.std.specs.List.{list_any}
+use Rattle.std.specs.List.Sorted.{IsStrictlyIncreasing}
 use Rattle.std.proofs.lemmas.Option.{slice_get-get_or}
 use Rattle.certificate.specs.View.{targets_in}
 use Rattle.listed_model.specs.Members.{holds}
+use Rattle.listed_model.proofs.Covering.{row_rises}
 use Rattle.listed_model.proofs.Extensions.{IsSource, some_before_next, some_before_none, holds_push, sources_mean}
 use Rattle.listed_model.proofs.restriction.by_rows.Goals as goal
 use Rattle.listed_model.proofs.restriction.by_rows.Goals.{then-have_common+in_ok-push, else-have_common}
@@ -12,6 +14,14 @@ loop-row-init c = λ x. (
   λ h. absurd (true≢false (sym h ∙ ap (λ xs. holds xs x) c.new-sources.ensures.items)),
   λ s. absurd (some_before_none (IsSource c.args.fillers.now x) c.rows_of-row-items.result.now s),
 )
+
+pub have_common-requires-clause-first : goal.have_common-requires-clause-first
+have_common-requires-clause-first c =
+    let items = c.rows_of-row-items.result.now in
+    let at = c.loop-row.row-index in
+    let row = c.row-item.result in
+    let g : slice_get items at ≡ Some row = slice_get-get_or items at row c.loop-row-test.true ∙ ap Some (sym c.row-item.is) in
+    subst IsStrictlyIncreasing (sym c.as_slice.ensures) (row_rises c.args.rows.now items c.args.property.0 c.requires.rows c.rows_of-row-items.ensures at row g)
 
 pub loop-row-preserved : goal.loop-row-preserved
 loop-row-preserved c = λ x.

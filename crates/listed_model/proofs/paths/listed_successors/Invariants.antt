@@ -3,7 +3,7 @@ use Rattle.certificate.specs.View.{pair_row_of}
 use Rattle.number_sets.specs.Members.{has}
 use Rattle.listed_model.specs.Listing.{targets_of}
 use Rattle.listed_model.specs.Members.{holds}
-use Rattle.listed_model.proofs.paths.successors.Given as goal
+use Rattle.listed_model.proofs.paths.listed_successors.Given as goal
 
 abbrev pub invariant-loop-source : goal.invariant-loop-source
 invariant-loop-source l = record {

@@ -5,7 +5,7 @@ use Rattle.certificate.specs.View.{pair_row_of}
 use Rattle.listed_model.specs.Listing.{targets_of}
 use Rattle.listed_model.specs.Members.{holds}
 use Rattle.listed_model.proofs.Walks.{holds_next}
-use Rattle.listed_model.proofs.paths.successors.Goals as goal
+use Rattle.listed_model.proofs.paths.listed_successors.Goals as goal
 
 pub loop-source-preserved : goal.loop-source-preserved
 loop-source-preserved c =

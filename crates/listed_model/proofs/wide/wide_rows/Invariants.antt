@@ -1,0 +1,7 @@
+use Rattle.std.proofs.Common.{map}
+use Rattle.certificate.specs.View.{pair_row_of}
+use Rattle.listed_model.specs.WideRows.{AreWide}
+use Rattle.listed_model.proofs.wide.wide_rows.Given as goal
+
+abbrev pub invariant-loop-number : goal.invariant-loop-number
+invariant-loop-number l = AreWide (map pair_row_of l.rows) l.fn.bound l.wide.items
