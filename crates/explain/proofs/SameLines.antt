@@ -1,7 +1,8 @@
 -- Lines that say that individuals are one: they stay where lines are added, and they follow from the axiom that gave the form.
-use Rattle.std.proofs.Common.{◌≡◌, ◌⊎◌, ℕ, zero, suc, ◌+◌, ◌<◌, ◌≤◌, inl, inr, List, [], ◌∷◌, ◌++◌, length, map, drop, get_or, slice_get, option_map, Some, None, Result, Ok, Err, OnOk, OnErr, Contains, refl, sym, ap, ◌∙◌, subst, arith}
+use Rattle.std.proofs.Common.{◌≡◌, ◌⊎◌, ℕ, zero, suc, ◌+◌, ◌/◌, ◌%◌, ◌^◌, ◌<◌, ◌≤◌, inl, inr, List, [], ◌∷◌, ◌++◌, length, map, drop, get_or, slice_get, option_map, Option, Some, None, IfSome, Result, Ok, Err, OnOk, OnErr, Contains, refl, sym, ap, ap₂, ◌∙◌, subst, arith}
 use Rattle.std.proofs.lemmas.List.{append-nil, drop_all}
-use Rattle.std.proofs.lemmas.List.Elements.{All-weaker}
+use Rattle.std.specs.BTreeMap.{BTreeMap, get}
+use Rattle.std.specs.Ordering.{nat_cmp}
 use Rattle.std.proofs.lemmas.Option.{none-some}
 use Rattle.lemmas.proofs.Mapped.{slice_get_map_from}
 use Rattle.lemmas.proofs.Members.{Contains-from_slice_get}
@@ -24,7 +25,6 @@ use Rattle.explain.specs.LinesOfFacts.{Lengthens}
 use Rattle.explain.specs.Paths.{IsChain}
 use Rattle.explain.specs.SameLines.{AreSameLines, SaysSame}
 use Rattle.explain.specs.Search.{AreLeadsWithin, LeadsOver, LinksBy, as_individual}
-use Rattle.explain.specs.declared.derivation.SameLine.{SameLine}
 use Rattle.facts.specs.Closure.{Links}
 use Rattle.normal_forms.specs.Forms as definition
 use Rattle.normal_forms.specs.Origins.{AxiomGives, GivenBy}
@@ -40,10 +40,13 @@ use Rattle.normalise.specs.Problem.{prefixes_of}
 pub says_grown : {old new : List Line} (n : ℕ) (i j : IndId) → Lengthens old new → SaysSame old n i j → SaysSame new n i j
 says_grown n i j longer says = conclusion_grown n (Same i.0 j.0) longer says
 
-pub kept_grown : {old new : List Line} → Lengthens old new → (kept : List SameLine) → AreSameLines old kept → AreSameLines new kept
-kept_grown {old} {new} longer kept =
-    All-weaker (λ (x : SameLine). (x.number ≡ 0) ⊎ SaysSame old x.number x.first x.second) (λ (x : SameLine). (x.number ≡ 0) ⊎ SaysSame new x.number x.first x.second)
-    (λ x h. elim h [ inl none ↦ inl none | inr says ↦ inr (says_grown x.number x.first x.second longer says) ]) kept
+pub kept_grown : {old new : List Line} → Lengthens old new → (kept : BTreeMap ℕ ℕ) → AreSameLines old kept → AreSameLines new kept
+kept_grown longer kept same key n at = conclusion_grown n (Same (key / 2 ^ 32) (key % 2 ^ 32)) longer (same key n at)
+
+-- what is found by a number for two individuals
+pub kept_says : (lines : List Line) (kept : BTreeMap ℕ ℕ) (i j : IndId) (key : ℕ) → AreSameLines lines kept → key / 2 ^ 32 ≡ i.0 → key % 2 ^ 32 ≡ j.0 → (found : Option ℕ) → found ≡ get nat_cmp kept key → IfSome found (λ n. SaysSame lines n i j)
+kept_says lines kept i j key same first second None at = tt
+kept_says lines kept i j key same first second (Some n) at = same key n (sym at) ∙ ap₂ (λ (a b : ℕ). Some (Same a b)) first second
 
 -- where a step may have failed, more lines are there or the same
 pub added_or_not : {T E : Type 0} (result : Result T E) (old new more : List Line) → OnOk result (new ≡ old ++ more) → OnErr result (new ≡ old) → Lengthens old new

@@ -6,42 +6,30 @@ ghost use Rattle.certificate.specs.LineText.{source_of};
 ghost use Rattle.certificate.specs.View.{conclusion_of, subject_of};
 ghost use Rattle.explain.specs.Step.{line_by};
 ghost use Rattle.explain.specs.SameLines.{SaysSame};
-ghost use Rattle.std.specs.Prelude.{◌≡◌, ◌<◌, ◌^◌, ◌++◌, ◌∷◌, [], IfOk, IfSome, OnErr, OnOk, length, map, option_map};
+ghost use Rattle.std.specs.Prelude.{◌≡◌, ◌/◌, ◌%◌, ◌^◌, ◌++◌, ◌∷◌, [], IfOk, IfSome, OnErr, OnOk, length, map, option_map};
 
 use crate::sink::LineSink;
 use axioms::{IndId, Memory};
 use certificate::{Conclusion, Rule, Subject};
 use std::alloc::Global;
+use std::collections::BTreeMap;
 use std::marker::Model;
 
-/// The number of a line that says that two individuals are one; 0 where there is none.
-#[derive(Clone, Copy, PartialEq, Eq)]
-pub(crate) struct SameLine {
-    first: IndId,
-    second: IndId,
-    number: u64,
-}
-
-/// Where nothing is kept.
-const NO_LINE: SameLine = SameLine {
-    first: IndId(0),
-    second: IndId(0),
-    number: 0,
-};
-
-/// The place in the table for the two individuals that the form of that number makes one, in this order.
-fn place_of_same(form: u32, first: IndId, second: IndId) -> usize
-    ensures { result < 2 ^ 34 }
+/// What the number of a line is kept by that says that the two, in this order, are one.
+fn key_of(first: IndId, second: IndId) -> u64
+    ensures first { result / 2 ^ 32 ≡ first.0 }
+    ensures second { result % 2 ^ 32 ≡ second.0 }
 {
-    form as usize * 2 + usize::from(first.0 < second.0)
+    first.0 as u64 * 0x1_0000_0000 + second.0 as u64
 }
 
-/// Lines, numbered from 1, in a sink.
+/// Lines, numbered from 1, in a sink. Beside it memory goes by the lines that are kept, each of which says of other individuals that they
+/// are one.
 #[derive(Drop)]
 pub(crate) struct Derivation<L: LineSink> {
     sink: L,
-    // lines that say that two individuals are one, by the form that makes them one and by the order of the two
-    same: Vec<SameLine>,
+    // the numbers of lines that say that two individuals are one, by these two
+    same: BTreeMap<u64, u64>,
 }
 
 impl<L: LineSink> Model for Derivation<L> {
@@ -53,7 +41,7 @@ impl<L: LineSink> Model for Derivation<L> {
 
     ghost view = { λ d. L.lines d.sink };
 
-    ghost invariant = { λ d. AreSameLines (L.lines d.sink) d.same.items };
+    ghost invariant = { λ d. AreSameLines (L.lines d.sink) d.same };
 }
 
 impl<L: LineSink> Derivation<L> {
@@ -63,7 +51,7 @@ impl<L: LineSink> Derivation<L> {
     {
         Derivation {
             sink,
-            same: Vec::new(alloc),
+            same: BTreeMap::new(alloc),
         }
     }
 
@@ -95,15 +83,11 @@ impl<L: LineSink> Derivation<L> {
         self.sink.source(number)
     }
 
-    /// The number of a line that says that the two are one, which the form of that number makes one, if it is kept.
-    pub(crate) fn same(&self, form: u32, first: IndId, second: IndId) -> Option<u64>
+    /// The number of a line that says that the two are one, if it is kept.
+    pub(crate) fn same(&self, first: IndId, second: IndId) -> Option<u64>
         ensures { IfSome result (λ n. SaysSame self.now n first second) }
     {
-        let kept = *self.same.get(place_of_same(form, first, second))?;
-        if kept.number == 0 || kept.first != first || kept.second != second {
-            return None;
-        }
-        Some(kept.number)
+        self.same.get(&key_of(first, second)).copied()
     }
 
     /// Keeps the number of such a line.
@@ -113,7 +97,6 @@ impl<L: LineSink> Derivation<L> {
     /// `Memory` where memory was refused.
     pub(crate) fn keep_same(
         &mut self,
-        form: u32,
         first: IndId,
         second: IndId,
         number: u64,
@@ -121,16 +104,10 @@ impl<L: LineSink> Derivation<L> {
         requires { SaysSame self.old number first second }
         ensures { self.new ≡ self.old }
     {
-        let place = place_of_same(form, first, second);
-        if self.same.len() <= place {
-            self.same.resize(place + 1, NO_LINE)?;
+        match self.same.insert(key_of(first, second), number) {
+            Ok(_) => Ok(()),
+            Err(_) => Err(Memory),
         }
-        self.same[place] = SameLine {
-            first,
-            second,
-            number,
-        };
-        Ok(())
     }
 
     pub(crate) fn into_sink(self) -> L

@@ -51,7 +51,7 @@ pub(crate) fn same_line<L: LineSink>(
     ensures says { IfOk result (λ n. SaysSame derivation.new n first second) }
     ensures used { IfOk result (λ n. Uses derivation.old derivation.new (IsAmong []) (n ∷ [])) }
 {
-    if let Some(number) = derivation.same(form, first, second) {
+    if let Some(number) = derivation.same(first, second) {
         return Ok(number);
     }
     basis.ontology.well_formed();
@@ -60,7 +60,7 @@ pub(crate) fn same_line<L: LineSink>(
         unreachable!()
     };
     let number = derivation.add(Conclusion::Same(first, second), Rule::K17, Some(axiom), &[])?;
-    derivation.keep_same(form, first, second, number)?;
+    derivation.keep_same(first, second, number)?;
     Ok(number)
 }
 

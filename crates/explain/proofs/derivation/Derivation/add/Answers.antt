@@ -7,7 +7,7 @@ use Rattle.explain.proofs.SameLines.{added_or_not, kept_grown}
 use Rattle.explain.proofs.derivation.Derivation.add.Goals as goal
 
 pub invariant_of-self : goal.invariant_of-self
-invariant_of-self g c = kept_grown (added_or_not c.add.result _ _ _ c.add.ensures.added c.add.ensures.err) c.self.inside.same.items c.self.invariant
+invariant_of-self g c = kept_grown (added_or_not c.add.result _ _ _ c.add.ensures.added c.add.ensures.err) c.self.inside.same c.self.invariant
 
 pub returns-clause-derivation : goal.returns-clause-derivation
 returns-clause-derivation g c =
