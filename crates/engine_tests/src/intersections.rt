@@ -54,7 +54,7 @@ fn pairs_of_a_kept_list_are_found(rt: HostRuntime) -> Result<(), Fail> {
     Ok(())
 }
 
-/// Whether an intersection begins or ends with a class tells of kept lists too, and a class of one has no few intersections.
+/// Whether an intersection begins or ends with a class tells of kept lists too.
 #[test]
 fn kept_lists_begin_and_end(rt: HostRuntime) -> Result<(), Fail> {
     let problem = with_two_lists(rt.alloc())?;
@@ -68,9 +68,29 @@ fn kept_lists_begin_and_end(rt: HostRuntime) -> Result<(), Fail> {
         assert!(rt; begun == begins);
         let ended = problem.ends_intersection(class);
         assert!(rt; ended == ends);
-        let few = problem.few_intersections(class, 9).is_some();
-        assert!(rt; few != (begins || ends));
     }
+    Ok(())
+}
+
+/// Of the few intersections of a class those of kept lists are not listed: the other classes of the lists are apart from it, before it
+/// and behind it.
+#[test]
+fn classes_of_kept_lists_are_apart(rt: HostRuntime) -> Result<(), Fail> {
+    let problem = with_two_lists(rt.alloc())?;
+    for class in [C2, C3, C4] {
+        let Some(few) = problem.few_intersections(class, 1) else {
+            return Err(Fail);
+        };
+        let is_empty = few.apart.is_empty();
+        assert!(rt; !is_empty);
+        for other in [C2, C3, C4, C5] {
+            let is_apart = few.apart.has(other);
+            assert!(rt; is_apart == (other != class && other != C5));
+        }
+    }
+    let of_another = problem.few_intersections(C5, 0);
+    let is_alone = of_another.is_some_and(|few| few.apart.is_empty());
+    assert!(rt; is_alone);
     Ok(())
 }
 

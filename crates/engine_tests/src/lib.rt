@@ -10,6 +10,8 @@ mod classifications;
 #[cfg(test)]
 mod classified_individuals;
 #[cfg(test)]
+mod disjoint;
+#[cfg(test)]
 mod extended;
 #[cfg(test)]
 mod fillers;
