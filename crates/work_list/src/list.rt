@@ -17,7 +17,7 @@ pub trait WorkList {
         ensures back { IfErr result (λ back. back ≡ item) }
         ensures same { OnErr result (pending self.new ≡ pending self.old) };
 
-    /// Takes out some item, or gives none, exactly where none waits.
+    /// Takes out some item, or gives none, exactly where none waits. It is to take no memory.
     fn pop(&mut self) -> Option<Item>
         ensures { Pops result (pending self.old) (pending self.new) };
 
