@@ -165,7 +165,7 @@ const ROWS: &[Row] = &[
         document: A_BELOW_SOME_B,
         addition: "ReflexiveObjectProperty(:r)",
         facts: 9,
-        served: 9,
+        served: 5,
         then: 13,
         consistent: true,
     },
