@@ -93,6 +93,8 @@ pub record HasResumed (max_facts : ℕ) (old new : Saturated) (result : Result U
   pub finished : OnOk result (IsFinished new)
   pub within : OnOk result (length new.state.facts ≤ max_facts)
   pub most : length old.state.facts ≤ max_facts → length new.state.facts ≤ max_facts
+  -- what was drawn up to the limit stays
+  pub full : result ≡ Err Limit → max_facts ≤ length new.state.facts
   -- with nothing pending nothing changes, and memory is not refused
   pub idle : IsFinished old → (new ≡ old) × ¬ (result ≡ Err Memory)
 
