@@ -72,24 +72,35 @@ fn kept_lists_begin_and_end(rt: HostRuntime) -> Result<(), Fail> {
     Ok(())
 }
 
-/// Of the few intersections of a class those of kept lists are not listed: the other classes of the lists are apart from it, before it
-/// and behind it.
+/// Whether kept lists put the second class apart from the first, which has one intersection that is listed at most.
+fn is_apart(problem: &IndexedProblem, class: Class2, other: Class2) -> bool {
+    match problem.few_intersections(class, 1) {
+        Some(few) => few.apart.has(other),
+        None => false,
+    }
+}
+
+/// Whether kept lists put no class apart from that one.
+fn is_alone(problem: &IndexedProblem, class: Class2) -> bool {
+    match problem.few_intersections(class, 1) {
+        Some(few) => few.apart.is_empty(),
+        None => false,
+    }
+}
+
+/// The other classes of kept lists are apart from a class, those before it and those behind it.
 #[test]
 fn classes_of_kept_lists_are_apart(rt: HostRuntime) -> Result<(), Fail> {
     let problem = with_two_lists(rt.alloc())?;
     for class in [C2, C3, C4] {
-        let Some(few) = problem.few_intersections(class, 1) else {
-            return Err(Fail);
-        };
-        let is_empty = few.apart.is_empty();
-        assert!(rt; !is_empty);
         for other in [C2, C3, C4, C5] {
-            let is_apart = few.apart.has(other);
+            let is_apart = is_apart(&problem, class, other);
             assert!(rt; is_apart == (other != class && other != C5));
         }
+        let is_alone = is_alone(&problem, class);
+        assert!(rt; !is_alone);
     }
-    let of_another = problem.few_intersections(C5, 0);
-    let is_alone = of_another.is_some_and(|few| few.apart.is_empty());
+    let is_alone = is_alone(&problem, C5);
     assert!(rt; is_alone);
     Ok(())
 }
