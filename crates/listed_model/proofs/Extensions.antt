@@ -1,14 +1,14 @@
 -- The elements of expressions, level by level.
-use Rattle.std.proofs.Common.{◌≡◌, ◌↔◌, ℕ, zero, suc, ◌+◌, ◌<◌, ◌≤◌, ◌⊎◌, inl, inr, List, [], ◌∷◌, ◌++◌, Bool, true, false, ◌&&◌, length, map, take, get_or, slice_get, Some, Contains, All, refl, sym, ap, ap₂, ◌∙◌, subst, arith}
+use Rattle.std.proofs.Common.{◌≡◌, ◌↔◌, ℕ, zero, suc, ◌+◌, ◌<◌, ◌≤◌, ◌⊎◌, inl, inr, List, [], ◌∷◌, ◌++◌, Bool, true, false, ◌&&◌, length, map, get_or, slice_get, Some, Contains, All, refl, sym, ap, ap₂, ◌∙◌, subst, arith}
 use Rattle.std.specs.Prelude.{filter}
 use Rattle.std.specs.List.{list_all, list_any, range_with_len}
 use Rattle.std.specs.List.Sorted.{IsStrictlyIncreasing}
 use Rattle.std.proofs.lemmas.Bool.{cases_Bool, cases_eq, cases_lt, eq-eqb, ne_eqb, and_right, and_from, true≢false, true_from_ne_false}
-use Rattle.std.proofs.lemmas.List.{map_more, length-map, get_or_past, get_or_append_left, get_or_push, length_push}
+use Rattle.std.proofs.lemmas.List.{length-map}
 use Rattle.std.proofs.lemmas.List.Elements.{All-map, All-weaker, All-contains, Contains-push, Contains-push_cases, Contains-append_left}
-use Rattle.std.proofs.lemmas.List.Folds.{list_all-append, list_all_at, Any-from_list_any, list_any-from_Any}
+use Rattle.std.proofs.lemmas.List.Folds.{list_all_at, Any-from_list_any, list_any-from_Any}
 use Rattle.std.proofs.lemmas.List.FromFn.{get_or-range_with_len, length-range_with_len}
-use Rattle.std.proofs.lemmas.Option.{slice_get_within, slice_get-get_or, same_Some}
+use Rattle.std.proofs.lemmas.Option.{slice_get_within, same_Some}
 use Rattle.lemmas.proofs.Mapped.{All-from_map}
 use Rattle.lemmas.proofs.Members.{slice_get-from_Contains, Contains-from_slice_get}
 use Rattle.axioms.specs.Ontology.{Ontology, And, Exists, IsClassAt, expression, expressions}
@@ -20,11 +20,10 @@ use Rattle.certificate.specs.View.{pair_row_of, targets_in}
 use Rattle.certificate.specs.declared.listed.PairRow.{PairRow}
 use Rattle.interpretation_spec.specs.Interpretation.{IsIn}
 use Rattle.interpretation_spec.proofs.Extensions.{in_intersection, each_of_intersection}
-use Rattle.number_sets.specs.Pieces.{list_at}
 use Rattle.listed_model.specs.Listing.{targets_of}
 use Rattle.listed_model.specs.Interpretations.{class_members, listed_interpretation}
 use Rattle.listed_model.specs.Members.{holds}
-use Rattle.listed_model.specs.Extensions.{IsExtension, AreExtensions}
+use Rattle.listed_model.specs.Extensions.{IsElement, IsExtension}
 use Rattle.listed_model.specs.Rows.{SomeBefore, ArePairRows, Joined}
 use Rattle.listed_model.proofs.Members.{holds_from_Contains, Contains_from_holds}
 use Rattle.listed_model.proofs.Interpreted.{class_is, property_is, size_is, range_has}
@@ -43,36 +42,12 @@ holds_filter p (y ∷ ys) x = go (cases_Bool (p y)) (cases_eq y x) (holds_filter
     go (inr f) (inl e) ih = rw (f, eq-eqb y x e) (let px = subst (λ v. p v ≡ false) e f in ih ∙ and_right (holds ys x) (p x) px ∙ sym px)
     go (inr f) (inr ne) ih = rw (f, ne_eqb y x ne) ih
 
-pub and_true : (b : Bool) → (b && true) ≡ b
-and_true true = refl
-and_true false = refl
-
-and_assoc : (a b c : Bool) → ((a && b) && c) ≡ (a && (b && c))
-and_assoc true b c = refl
-and_assoc false b c = refl
-
-pub and_absorb : (a b : Bool) → (b ≡ true → a ≡ true) → (a && b) ≡ b
-and_absorb true b h = refl
-and_absorb false true h = h refl
-and_absorb false false h = refl
-
-pub list_all_next : {X : Type 0} (p : ℕ → Bool) (f : X → ℕ) (xs : List X) (i : ℕ) (d : X) → i < length xs → list_all p (map f (take (i + 1) xs)) ≡ (list_all p (map f (take i xs)) && p (f (get_or xs i d)))
-list_all_next p f xs i d l =
-    ap (list_all p) (map_more f xs i d l)
-    ∙ list_all-append p (map f (take i xs)) (f (get_or xs i d) ∷ [])
-    ∙ ap (λ b. list_all p (map f (take i xs)) && b) (and_true (p (f (get_or xs i d))))
-
 pub list_all_member : (p : ℕ → Bool) (xs : List ℕ) (x : ℕ) → Contains xs x → list_all p xs ≡ true → p x ≡ true
 list_all_member p xs x (k, l, e) h = true_from_ne_false (p x) (λ f. true≢false (sym h ∙ list_all_at p xs k x l (ap p e ∙ f)))
 
 pub list_all_from : (p : ℕ → Bool) (xs : List ℕ) → All (λ x. p x ≡ true) xs → list_all p xs ≡ true
 list_all_from p [] h = refl
 list_all_from p (x ∷ xs) h = and_from (p x) (list_all p xs) (h 0 x (omega arith)) (list_all_from p xs (λ k d l. h (suc k) d (omega arith)))
-
--- a further operand
-pub one_operand_more : (xs ys list : List ℕ) (x : ℕ) (a b c : Bool) → ys ≡ filter (holds list) xs → holds xs x ≡ (a && b) → c ≡ (b && holds list x) → holds ys x ≡ (a && c)
-one_operand_more xs ys list x a b c is old next =
-    ap (λ zs. holds zs x) is ∙ holds_filter (holds list) xs x ∙ ap (λ v. v && holds list x) old ∙ and_assoc a b (holds list x) ∙ ap (λ v. a && v) (sym next)
 
 -- ---- some before
 
@@ -165,31 +140,22 @@ module _ (o : Ontology) (w : IsOntology o) (l : Listed) (fits : IsListedOf o l) 
         );
       }
 
-  pub and_extension : (e : ℕ) (ds : List ℕ) → slice_get o.nodes e ≡ Some (And ds) → (made : List (List ℕ)) → AreExtensions o l made → e ≡ length made
-      → (xs : List ℕ) → IsStrictlyIncreasing xs → ((x : ℕ) → holds xs x ≡ list_all (λ d. holds (list_at made d) x) ds) → IsExtension o l e xs
-  and_extension e ds g made each next xs up is =
+  -- an element of an intersection is one of each operand
+  pub and_elements : (e : ℕ) (ds : List ℕ) → slice_get o.nodes e ≡ Some (And ds) → (x : ℕ) → IsElement o l e x ↔ All (λ d. IsElement o l d x) ds
+  and_elements e ds g x =
       let i = listed_interpretation o l in
       let tree = and_tree o w e ds g in
       let operands = w.nodes e (And ds) g in
-      let many : 1 ≤ length (expressions o ds) = omega (arith, operands.many, length-map ds (expression o)) in
-      record {
-        ascending = up;
-        members = λ x.
-            let P : ℕ → Bool = λ d. holds (list_at made d) x in
-            let of_operand : (k d : ℕ) → k < length ds → (P (get_or ds k d) ≡ true) ↔ ((x < l.domain) × IsIn i (expression o (get_or ds k d)) x) =
-            λ k d b. (let b' = operands.within k d b in (each (get_or ds k d) (omega arith)).members x) in (
-              λ h.
-                  let all = sym (is x) ∙ h in
-                  let at : (k d : ℕ) → k < length ds → P (get_or ds k d) ≡ true = λ k d b. list_all_member P ds (get_or ds k d) (Contains-from_slice_get ds k (get_or ds k d) (slice_get-get_or ds k d b)) all in
-                  let two = operands.many in (
-                    ((of_operand 0 0 (omega arith)).0 (at 0 0 (omega arith))).0,
-                    subst (λ t. IsIn i t x) (sym tree) (in_intersection i x (expressions o ds) many (All-map (λ t. IsIn i t x) (expression o) ds (λ k d b. ((of_operand k d b).0 (at k d b)).1))),
-                  ),
-              λ h.
-                  let all = All-from_map (λ t. IsIn i t x) (expression o) ds (each_of_intersection i x (expressions o ds) many (subst (λ t. IsIn i t x) tree h.1)) in
-                  is x ∙ list_all_from P ds (λ k d b. (of_operand k d b).1 (h.0, all k d b)),
-            );
-      }
+      let two = operands.many in
+      let many : 1 ≤ length (expressions o ds) = omega (arith, operands.many, length-map ds (expression o)) in (
+        λ h.
+            let all = All-from_map (λ t. IsIn i t x) (expression o) ds (each_of_intersection i x (expressions o ds) many (subst (λ t. IsIn i t x) tree h.1)) in
+            λ k d b. (h.0, all k d b),
+        λ h. (
+          (h 0 0 (omega arith)).0,
+          subst (λ t. IsIn i t x) (sym tree) (in_intersection i x (expressions o ds) many (All-map (λ t. IsIn i t x) (expression o) ds (λ k d b. (h k d b).1))),
+        ),
+      )
 
   pub target_within : (r x y : ℕ) → holds (targets_of l.pairs r x) y ≡ true → (x < l.domain) × (y < l.domain)
   target_within r x y h = pair_within l.pairs fits.pairs r x y h
@@ -210,38 +176,30 @@ module _ (o : Ontology) (w : IsOntology o) (l : Listed) (fits : IsListedOf o l) 
             ]
           ]
 
-  pub some_extension : (e r c : ℕ) → slice_get o.nodes e ≡ Some (Exists r c) → (fillers xs : List ℕ) → IsExtension o l c fillers → IsStrictlyIncreasing xs
-      → ((x : ℕ) → (holds xs x ≡ true) ↔ ((y : ℕ) × (holds (targets_of l.pairs r x) y ≡ true) × (holds fillers y ≡ true))) → IsExtension o l e xs
-  some_extension e r c g fillers xs filled up is =
+  -- an element of a restriction leads to one of the filler
+  pub some_elements : (e r c : ℕ) → slice_get o.nodes e ≡ Some (Exists r c) → (x : ℕ)
+      → IsElement o l e x ↔ ((y : ℕ) × (holds (targets_of l.pairs r x) y ≡ true) × IsElement o l c y)
+  some_elements e r c g x =
       let i = listed_interpretation o l in
       let tree = some_tree o w e r c g in
       let lr : r < length o.names.properties = (w.nodes e (Exists r c) g).0 in
-      let size = size_is o w l in
-      record {
-        ascending = up;
-        members = λ x. (
-          λ h.
-              let (y, t, f) = (is x).0 h in
-              let (lx, ly) = target_within r x y t in
-              (lx, subst (λ t. IsIn i t x) (sym tree) (y, subst (λ (n : ℕ). y < n) (sym size) ly, property_is o w l r x y lr ∙ t, ((filled.members y).0 f).1)),
-          λ h.
-              let (y, ly, t, m) = subst (λ t. IsIn i t x) tree h.1 in
-              let b : y < l.domain = subst (λ (n : ℕ). y < n) size ly in
-              (is x).1 (y, sym (property_is o w l r x y lr) ∙ t, (filled.members y).1 (b, m)),
-        );
-      }
+      let size = size_is o w l in (
+        λ h.
+            let (y, ly, t, m) = subst (λ t. IsIn i t x) tree h.1 in
+            let b : y < l.domain = subst (λ (n : ℕ). y < n) size ly in
+            (y, sym (property_is o w l r x y lr) ∙ t, (b, m)),
+        λ (y, t, f).
+            let (lx, ly) = target_within r x y t in
+            (lx, subst (λ t. IsIn i t x) (sym tree) (y, subst (λ (n : ℕ). y < n) (sym size) ly, property_is o w l r x y lr ∙ t, f.1)),
+      )
 
--- the lists ascend, also those that are not there
-pub all_rise : (o : Ontology) (l : Listed) (made : List (List ℕ)) → AreExtensions o l made → (e : ℕ) → IsStrictlyIncreasing (list_at made e)
-all_rise o l made each e = elim (cases_lt e (length made)) [
-  | inl b ↦ (each e b).ascending
-  | inr b ↦ rw (get_or_past made e [] b) (λ k m. absurd (omega arith))
-]
-
--- one more
-pub extensions_push : (o : Ontology) (l : Listed) (made : List (List ℕ)) (xs : List ℕ) (n : ℕ) → n ≡ length made → AreExtensions o l made → IsExtension o l n xs → AreExtensions o l (made ++ xs ∷ [])
-extensions_push o l made xs n next each one e b =
-    elim (cases_lt e (length made)) [
-      | inl h ↦ rw (get_or_append_left made (xs ∷ []) [] e h) (each e h)
-      | inr h ↦ (let s : e ≡ n = omega (arith, length_push made xs) in rw (s, get_or_push made xs [] n (sym next)) one)
-    ]
+  pub some_extension : (e r c : ℕ) → slice_get o.nodes e ≡ Some (Exists r c) → (fillers xs : List ℕ) → IsExtension o l c fillers → IsStrictlyIncreasing xs
+      → ((x : ℕ) → (holds xs x ≡ true) ↔ Joined l.pairs r fillers x) → IsExtension o l e xs
+  some_extension e r c g fillers xs filled up is = record {
+    ascending = up;
+    members = λ x. (
+        let some = some_elements e r c g x in (
+          λ h. (let (y, t, f) = (is x).0 h in some.1 (y, t, (filled.members y).0 f)),
+          λ h. (let (y, t, f) = some.0 h in (is x).1 (y, t, (filled.members y).1 f)),
+        ));
+  }

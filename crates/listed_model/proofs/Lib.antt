@@ -8,3 +8,4 @@ pub mod Said
 pub mod Holding
 pub mod Keys
 pub mod Covering
+pub mod Passed

@@ -1,6 +1,5 @@
 -- What lists and rows say of axioms, shape by shape.
 use Rattle.std.proofs.Common.{◌≡◌, ◌↔◌, ◌⊎◌, inl, inr, ℕ, ◌<◌, List, [], ◌∷◌, true, length, map, get_or, All, AllPairs, refl, sym, ap, ap₂, ◌∙◌, subst, subst₂, arith, true≢false}
-use Rattle.std.specs.List.{list_all}
 use Rattle.std.specs.Cmp.{both_ways}
 use Rattle.std.proofs.lemmas.Bool.{cases_order}
 use Rattle.std.proofs.lemmas.List.Elements.{All-head, All-tail, All-contains}
@@ -14,20 +13,18 @@ use Rattle.axioms.specs.WellFormedness.{IsOntology}
 use Rattle.certificate.specs.Certificate.{Listed}
 use Rattle.certificate.specs.Writability.{IsListedOf}
 use Rattle.interpretation_spec.specs.Interpretation.{IsIn, IsWithin, IsSame, IsApart, HasPath, IsSubProperty, IsSameProperty, IsSameElement, IsOtherElement, Satisfies}
-use Rattle.number_sets.specs.Pieces.{list_at}
 use Rattle.listed_model.specs.Listing.{HaveOneElement, HaveTwoElements, element_of, targets_of}
 use Rattle.listed_model.specs.Interpretations.{listed_interpretation}
 use Rattle.listed_model.specs.Members.{holds}
-use Rattle.listed_model.specs.Extensions.{IsExtension, AreExtensions}
+use Rattle.listed_model.specs.Extensions.{IsElement, IsExtension}
 use Rattle.listed_model.specs.Rows.{HasListedPath}
 use Rattle.listed_model.proofs.Members.{holds_from_Contains, Contains_from_holds}
 use Rattle.listed_model.proofs.Interpreted.{property_is, individual_is, size_is}
 use Rattle.listed_model.proofs.Extensions.{target_within}
-use Rattle.listed_model.proofs.Walks.{list_all_means}
 
 -- ---- lists
 
-abbrev Rises : List ℕ → Type 0
+abbrev pub Rises : List ℕ → Type 0
 Rises xs = AllPairs (λ x y. x < y) xs
 
 -- a member of a list is its head or a later one
@@ -44,7 +41,7 @@ above_head : (x : ℕ) (xs : List ℕ) → Rises (x ∷ xs) → (z : ℕ) → ho
 above_head x xs h z m = All-contains (λ v. x < v) xs z (AllPairs-head (λ a b. a < b) x xs h) (Contains_from_holds xs z m)
 
 -- ascending lists with the same members are the same
-same_members : (xs ys : List ℕ) → Rises xs → Rises ys → ((z : ℕ) → (holds xs z ≡ true) ↔ (holds ys z ≡ true)) → xs ≡ ys
+pub same_members : (xs ys : List ℕ) → Rises xs → Rises ys → ((z : ℕ) → (holds xs z ≡ true) ↔ (holds ys z ≡ true)) → xs ≡ ys
 same_members [] [] p q h = refl
 same_members [] (y ∷ ys) p q h = absurd (true≢false (sym ((h y).1 (first_holds y ys))))
 same_members (x ∷ xs) [] p q h = absurd (true≢false (sym ((h x).0 (first_holds x xs))))
@@ -59,6 +56,17 @@ same_members (x ∷ xs) (y ∷ ys) p q h =
       | inr (inl l) ↦ elim (holds_cases y x ys ((h x).0 (first_holds x xs))) [ inl e ↦ absurd (omega arith) | inr m ↦ (let k = above_head y ys q x m in absurd (omega arith)) ]
       | inr (inr l) ↦ elim (holds_cases x y xs ((h y).1 (first_holds y ys))) [ inl e ↦ absurd (omega arith) | inr m ↦ (let k = above_head x xs p y m in absurd (omega arith)) ]
     ]
+
+-- two ascending lists of elements are the same where the expressions have the same elements
+pub same_lists : (o : Ontology) (l : Listed) (c d : ℕ) (xs ys : List ℕ) → IsExtension o l c xs → IsExtension o l d ys → (xs ≡ ys) ↔ ((x : ℕ) → IsElement o l c x ↔ IsElement o l d x)
+same_lists o l c d xs ys p q = (
+  λ e x. (
+    λ h. (q.members x).0 (ap (λ zs. holds zs x) (sym e) ∙ (p.members x).1 h),
+    λ h. (p.members x).0 (ap (λ zs. holds zs x) e ∙ (q.members x).1 h),
+  ),
+  λ h. same_members xs ys (AllPairs-from_increasing xs p.ascending) (AllPairs-from_increasing ys q.ascending)
+      (λ z. (λ t. (q.members z).1 ((h z).0 ((p.members z).0 t)), λ t. (p.members z).1 ((h z).1 ((q.members z).0 t)))),
+)
 
 -- what is said of each two numbers is said of what they stand for
 pairs_said : {B : Type 0} (P : ℕ → Type 0) (R : ℕ → ℕ → Type 0) (S : B → B → Type 0) (f : ℕ → B) → ((c d : ℕ) → P c → P d → R c d ↔ S (f c) (f d)) → (xs : List ℕ) → All P xs → AllPairs R xs ↔ AllPairs S (map f xs)
@@ -81,39 +89,31 @@ module _ (o : Ontology) (w : IsOntology o) (l : Listed) (fits : IsListedOf o l) 
 
   -- ---- classes
 
-  members_within : (c d : ℕ) (xs ys : List ℕ) → IsExtension o l c xs → IsExtension o l d ys → ((x : ℕ) → holds xs x ≡ true → holds ys x ≡ true) ↔ IsWithin (listed_interpretation o l) (expression o c) (expression o d)
-  members_within c d xs ys p q = (
-    λ h x lx m. ((q.members x).0 (h x ((p.members x).1 (inside x lx, m)))).1,
-    λ h x t. (let (lx, m) = (p.members x).0 t in (q.members x).1 (lx, h x (outside x lx) m)),
+  pub within_said : (c d : ℕ) → ((x : ℕ) → IsElement o l c x → IsElement o l d x) ↔ IsWithin (listed_interpretation o l) (expression o c) (expression o d)
+  within_said c d = (
+    λ h x lx m. (h x (inside x lx, m)).1,
+    λ h x (lx, m). (lx, h x (outside x lx) m),
   )
 
-  pub within_said : (c d : ℕ) (xs ys : List ℕ) → IsExtension o l c xs → IsExtension o l d ys → (list_all (holds ys) xs ≡ true) ↔ IsWithin (listed_interpretation o l) (expression o c) (expression o d)
-  within_said c d xs ys p q = (
-    λ h. (members_within c d xs ys p q).0 ((list_all_means ys xs).0 h),
-    λ h. (list_all_means ys xs).1 ((members_within c d xs ys p q).1 h),
+  same_said : (c d : ℕ) → ((x : ℕ) → IsElement o l c x ↔ IsElement o l d x) ↔ IsSame (listed_interpretation o l) (expression o c) (expression o d)
+  same_said c d = (
+    λ h. ((within_said c d).0 (λ x. (h x).0), (within_said d c).0 (λ x. (h x).1)),
+    λ h x. ((within_said c d).1 h.0 x, (within_said d c).1 h.1 x),
   )
 
-  same_said : (c d : ℕ) (xs ys : List ℕ) → IsExtension o l c xs → IsExtension o l d ys → (xs ≡ ys) ↔ IsSame (listed_interpretation o l) (expression o c) (expression o d)
-  same_said c d xs ys p q = (
-    λ e. ((members_within c d xs ys p q).0 (λ x t. ap (λ zs. holds zs x) (sym e) ∙ t), (members_within d c ys xs q p).0 (λ x t. ap (λ zs. holds zs x) e ∙ t)),
-    λ h. same_members xs ys (AllPairs-from_increasing xs p.ascending) (AllPairs-from_increasing ys q.ascending) (λ z. ((members_within c d xs ys p q).1 h.0 z, (members_within d c ys xs q p).1 h.1 z)),
+  apart_said : (c d : ℕ) → ((x : ℕ) → IsElement o l c x → IsElement o l d x → ⊥) ↔ IsApart (listed_interpretation o l) (expression o c) (expression o d)
+  apart_said c d = (
+    λ h x lx m n. h x (inside x lx, m) (inside x lx, n),
+    λ h x (lx, m) (ly, n). h x (outside x lx) m n,
   )
 
-  apart_said : (c d : ℕ) (xs ys : List ℕ) → IsExtension o l c xs → IsExtension o l d ys → ((x : ℕ) → holds xs x ≡ true → holds ys x ≡ true → ⊥) ↔ IsApart (listed_interpretation o l) (expression o c) (expression o d)
-  apart_said c d xs ys p q = (
-    λ h x lx m n. h x ((p.members x).1 (inside x lx, m)) ((q.members x).1 (inside x lx, n)),
-    λ h x s t. (let (lx, m) = (p.members x).0 s in h x (outside x lx) m ((q.members x).0 t).1),
-  )
+  pub all_same_said : (ds : List ℕ) → AllPairs (λ c d. (x : ℕ) → IsElement o l c x ↔ IsElement o l d x) ds ↔ AllPairs (IsSame (listed_interpretation o l)) (expressions o ds)
+  all_same_said ds = pairs_said (λ (d : ℕ). d ≡ d) (λ c d. (x : ℕ) → IsElement o l c x ↔ IsElement o l d x) (IsSame (listed_interpretation o l)) (expression o)
+      (λ c d p q. same_said c d) ds (λ k d b. refl)
 
-  pub all_same_said : (made : List (List ℕ)) → AreExtensions o l made → (ds : List ℕ) → All (λ d. d < length made) ds
-      → AllPairs (λ c d. list_at made c ≡ list_at made d) ds ↔ AllPairs (IsSame (listed_interpretation o l)) (expressions o ds)
-  all_same_said made each ds all = pairs_said (λ d. d < length made) (λ c d. list_at made c ≡ list_at made d) (IsSame (listed_interpretation o l)) (expression o)
-      (λ c d p q. same_said c d (list_at made c) (list_at made d) (each c p) (each d q)) ds all
-
-  pub all_apart_said : (made : List (List ℕ)) → AreExtensions o l made → (ds : List ℕ) → All (λ d. d < length made) ds
-      → AllPairs (λ c d. (x : ℕ) → holds (list_at made c) x ≡ true → holds (list_at made d) x ≡ true → ⊥) ds ↔ AllPairs (IsApart (listed_interpretation o l)) (expressions o ds)
-  all_apart_said made each ds all = pairs_said (λ d. d < length made) (λ c d. (x : ℕ) → holds (list_at made c) x ≡ true → holds (list_at made d) x ≡ true → ⊥) (IsApart (listed_interpretation o l)) (expression o)
-      (λ c d p q. apart_said c d (list_at made c) (list_at made d) (each c p) (each d q)) ds all
+  pub all_apart_said : (ds : List ℕ) → AllPairs (λ c d. (x : ℕ) → IsElement o l c x → IsElement o l d x → ⊥) ds ↔ AllPairs (IsApart (listed_interpretation o l)) (expressions o ds)
+  all_apart_said ds = pairs_said (λ (d : ℕ). d ≡ d) (λ c d. (x : ℕ) → IsElement o l c x → IsElement o l d x → ⊥) (IsApart (listed_interpretation o l)) (expression o)
+      (λ c d p q. apart_said c d) ds (λ k d b. refl)
 
   -- ---- properties
 
@@ -161,13 +161,13 @@ module _ (o : Ontology) (w : IsOntology o) (l : Listed) (fits : IsListedOf o l) 
       → AllPairs (λ r s. (x y : ℕ) → holds (targets_of l.pairs r x) y ≡ holds (targets_of l.pairs s x) y) rs ↔ AllPairs (IsSameProperty (listed_interpretation o l)) (map (property_name o) rs)
   same_properties_said rs hs = pairs_said (λ r. r < length o.names.properties) (λ r s. (x y : ℕ) → holds (targets_of l.pairs r x) y ≡ holds (targets_of l.pairs s x) y) (IsSameProperty (listed_interpretation o l)) (property_name o) same_property_said rs hs
 
-  pub domain_said : (r c : ℕ) (xs : List ℕ) → r < length o.names.properties → IsExtension o l c xs
-      → ((x y : ℕ) → holds (targets_of l.pairs r x) y ≡ true → holds xs x ≡ true) ↔ Satisfies (listed_interpretation o l) (tree.PropertyDomain (property_name o r) (expression o c))
-  domain_said r c xs lr e = (
-    λ h x lx y ly p. ((e.members x).0 (h x y (sym (property_is o w l r x y lr) ∙ p))).1,
+  pub domain_said : (r c : ℕ) → r < length o.names.properties
+      → ((x y : ℕ) → holds (targets_of l.pairs r x) y ≡ true → IsElement o l c x) ↔ Satisfies (listed_interpretation o l) (tree.PropertyDomain (property_name o r) (expression o c))
+  domain_said r c lr = (
+    λ h x lx y ly p. (h x y (sym (property_is o w l r x y lr) ∙ p)).1,
     λ h x y t.
         let (lx, ly) = target_within o w l fits r x y t in
-        (e.members x).1 (lx, h x (outside x lx) y (outside y ly) (property_is o w l r x y lr ∙ t)),
+        (lx, h x (outside x lx) y (outside y ly) (property_is o w l r x y lr ∙ t)),
   )
 
   pub reflexive_said : (r : ℕ) → r < length o.names.properties → ((x : ℕ) → x < l.domain → holds (targets_of l.pairs r x) x ≡ true) ↔ Satisfies (listed_interpretation o l) (tree.ReflexiveProperty (property_name o r))
@@ -178,14 +178,14 @@ module _ (o : Ontology) (w : IsOntology o) (l : Listed) (fits : IsListedOf o l) 
 
   -- ---- individuals
 
-  pub class_assertion_said : (c a : ℕ) (xs : List ℕ) → a < length o.names.individuals → IsExtension o l c xs
-      → (holds xs (element_of l.individuals a) ≡ true) ↔ Satisfies (listed_interpretation o l) (tree.ClassAssertion (expression o c) (individual_name o a))
-  class_assertion_said c a xs la e =
+  pub class_assertion_said : (c a : ℕ) → a < length o.names.individuals
+      → IsElement o l c (element_of l.individuals a) ↔ Satisfies (listed_interpretation o l) (tree.ClassAssertion (expression o c) (individual_name o a))
+  class_assertion_said c a la =
       let i = listed_interpretation o l in
       let x = element_of l.individuals a in
       let within : x < l.domain = fits.individuals a 0 (omega (arith, fits.individuals_each)) in (
-        λ h. subst (λ (v : ℕ). IsIn i (expression o c) v) (sym (individual_is o w l a la)) ((e.members x).0 h).1,
-        λ h. (e.members x).1 (within, subst (λ (v : ℕ). IsIn i (expression o c) v) (individual_is o w l a la) h),
+        λ h. subst (λ (v : ℕ). IsIn i (expression o c) v) (sym (individual_is o w l a la)) h.1,
+        λ h. (within, subst (λ (v : ℕ). IsIn i (expression o c) v) (individual_is o w l a la) h),
       )
 
   pub property_assertion_said : (r a b : ℕ) → r < length o.names.properties → a < length o.names.individuals → b < length o.names.individuals

@@ -1,53 +1,143 @@
-//! Axioms on classes, over the elements of expressions.
+//! Axioms on classes, over the elements of expressions. Of an axiom those of the subclass side are listed, and let go with it.
 ghost use Rattle.axioms.specs.View.{expr_numbers};
+ghost use Rattle.certificate.specs.View.{listed_of};
+ghost use Rattle.certificate.specs.Writability.{IsListedOf};
+ghost use Rattle.listed_model.specs.Extensions.{AreAscending, IsElement};
+ghost use Rattle.listed_model.specs.Listing.{targets_of};
 ghost use Rattle.listed_model.specs.Members.{holds};
-ghost use Rattle.number_sets.specs.Pieces.{list_at};
-ghost use Rattle.std.specs.List.{list_all};
-ghost use Rattle.std.specs.List.Sorted.{IsStrictlyIncreasing};
-ghost use Rattle.std.specs.Prelude.{◌<◌, ◌≡◌, ◌↔◌, AllPairs, IsTrue, length, true, ℕ};
+ghost use Rattle.listed_model.specs.Rows.{AreHolders};
+ghost use Rattle.std.specs.Prelude.{◌<◌, ◌≡◌, ◌↔◌, All, AllPairs, IfOk, IsTrue, length, true, ℕ};
 
-use crate::ascending::are_within;
+use crate::among::{sources_of, those_in};
+use crate::extension::elements_of;
 use crate::sets::{has_one, put_each};
-use axioms::ExprId;
+use axioms::{ExprId, Memory, Ontology, PropId};
+use certificate::Listed;
 use number_sets::{EpochSet, PackedLists};
+use std::alloc::Global;
+
+/// Whether each of the elements is one of the expression.
+pub(crate) fn are_in(
+    alloc: Global,
+    ontology: &Ontology,
+    listed: &Listed,
+    elements: &[u32],
+    expression: ExprId,
+) -> Result<bool, Memory>
+    requires listed { IsListedOf ontology.now (listed_of listed.now) }
+    requires there { expression.0 < length ontology.now.nodes }
+    requires elements { AreAscending listed.now.domain elements.now }
+    ensures { IfOk result (λ all. IsTrue all ↔ ((x : ℕ) → holds elements.now x ≡ true → IsElement ontology.now (listed_of listed.now) expression.0 x)) }
+{
+    let those = those_in(alloc, ontology, listed, expression, elements)?;
+    Ok(those.as_slice() == elements)
+}
 
 /// Whether the elements of `sub` are elements of `sup`.
-pub(crate) fn is_within(made: &PackedLists, sub: ExprId, sup: ExprId) -> bool
-    requires { (e : ℕ) → IsStrictlyIncreasing (list_at made.now e) }
-    ensures { result ≡ list_all (holds (list_at made.now sup.0)) (list_at made.now sub.0) }
+pub(crate) fn is_within(
+    alloc: Global,
+    ontology: &Ontology,
+    listed: &Listed,
+    holders: &PackedLists,
+    sub: ExprId,
+    sup: ExprId,
+) -> Result<bool, Memory>
+    requires listed { IsListedOf ontology.now (listed_of listed.now) }
+    requires holders { AreHolders listed.now.pairs.items listed.now.domain holders.now }
+    requires sub { sub.0 < length ontology.now.nodes }
+    requires sup { sup.0 < length ontology.now.nodes }
+    ensures { IfOk result (λ within. IsTrue within
+        ↔ ((x : ℕ) → IsElement ontology.now (listed_of listed.now) sub.0 x → IsElement ontology.now (listed_of listed.now) sup.0 x)) }
 {
-    are_within(made.at(sub.index()), made.at(sup.index()))
+    let elements = elements_of(alloc, ontology, listed, holders, sub)?;
+    are_in(alloc, ontology, listed, &elements, sup)
 }
 
 /// Whether the operands have the same elements.
-pub(crate) fn are_same(made: &PackedLists, operands: &[ExprId]) -> bool
-    ensures { IsTrue result ↔ AllPairs (λ d e. list_at made.now d ≡ list_at made.now e) (expr_numbers operands.now) }
+pub(crate) fn are_same(
+    alloc: Global,
+    ontology: &Ontology,
+    listed: &Listed,
+    holders: &PackedLists,
+    operands: &[ExprId],
+) -> Result<bool, Memory>
+    requires listed { IsListedOf ontology.now (listed_of listed.now) }
+    requires holders { AreHolders listed.now.pairs.items listed.now.domain holders.now }
+    requires there { All (λ d. d < length ontology.now.nodes) (expr_numbers operands.now) }
+    ensures { IfOk result (λ same. IsTrue same
+        ↔ AllPairs (λ d e. (x : ℕ) → IsElement ontology.now (listed_of listed.now) d x ↔ IsElement ontology.now (listed_of listed.now) e x) (expr_numbers operands.now)) }
 {
     let Some(first) = operands.first() else {
-        return true;
+        return Ok(true);
     };
+    let elements = elements_of(alloc, ontology, listed, holders, *first)?;
     for operand in operands {
-        if made.at(first.index()) != made.at(operand.index()) {
-            return false;
+        let others = elements_of(alloc, ontology, listed, holders, *operand)?;
+        if others.as_slice() != elements.as_slice() {
+            return Ok(false);
         }
     }
-    true
+    Ok(true)
 }
 
 /// Whether no two of the operands have an element in common. The set is room to work in.
-pub(crate) fn are_apart(made: &PackedLists, seen: &mut EpochSet, operands: &[ExprId]) -> bool
-    requires { (e x : ℕ) → holds (list_at made.now e) x ≡ true → x < length seen.old }
+pub(crate) fn are_apart(
+    alloc: Global,
+    ontology: &Ontology,
+    listed: &Listed,
+    holders: &PackedLists,
+    seen: &mut EpochSet,
+    operands: &[ExprId],
+) -> Result<bool, Memory>
+    requires listed { IsListedOf ontology.now (listed_of listed.now) }
+    requires holders { AreHolders listed.now.pairs.items listed.now.domain holders.now }
+    requires there { All (λ d. d < length ontology.now.nodes) (expr_numbers operands.now) }
+    requires room { length seen.old ≡ listed.now.domain }
     ensures len { length seen.new ≡ length seen.old }
-    ensures apart { IsTrue result
-        ↔ AllPairs (λ d e. (x : ℕ) → holds (list_at made.now d) x ≡ true → holds (list_at made.now e) x ≡ true → ⊥) (expr_numbers operands.now) }
+    ensures apart { IfOk result (λ apart. IsTrue apart
+        ↔ AllPairs (λ d e. (x : ℕ) → IsElement ontology.now (listed_of listed.now) d x → IsElement ontology.now (listed_of listed.now) e x → ⊥) (expr_numbers operands.now)) }
 {
     seen.clear();
     for operand in operands {
-        let elements = made.at(operand.index());
-        if has_one(seen, elements) {
-            return false;
+        let elements = elements_of(alloc, ontology, listed, holders, *operand)?;
+        if has_one(seen, &elements) {
+            return Ok(false);
         }
-        put_each(seen, elements);
+        put_each(seen, &elements);
     }
-    true
+    Ok(true)
+}
+
+/// Whether each element that the property leads to another from is one of the class.
+pub(crate) fn has_domain(
+    alloc: Global,
+    ontology: &Ontology,
+    listed: &Listed,
+    property: PropId,
+    class: ExprId,
+) -> Result<bool, Memory>
+    requires listed { IsListedOf ontology.now (listed_of listed.now) }
+    requires there { class.0 < length ontology.now.nodes }
+    ensures { IfOk result (λ all. IsTrue all
+        ↔ ((x y : ℕ) → holds (targets_of (listed_of listed.now).pairs property.0 x) y ≡ true → IsElement ontology.now (listed_of listed.now) class.0 x)) }
+{
+    ontology.well_formed();
+    let sources = sources_of(alloc, &listed.pairs, property)?;
+    are_in(alloc, ontology, listed, &sources, class)
+}
+
+/// Whether the element is one of the class.
+pub(crate) fn is_in(
+    alloc: Global,
+    ontology: &Ontology,
+    listed: &Listed,
+    class: ExprId,
+    element: u32,
+) -> Result<bool, Memory>
+    requires listed { IsListedOf ontology.now (listed_of listed.now) }
+    requires there { class.0 < length ontology.now.nodes }
+    requires element { element < listed.now.domain }
+    ensures { IfOk result (λ one. IsTrue one ↔ IsElement ontology.now (listed_of listed.now) class.0 element) }
+{
+    are_in(alloc, ontology, listed, &[element], class)
 }

@@ -1,18 +1,15 @@
 //! The elements of class expressions.
+ghost use Rattle.axioms.specs.View.{expr_numbers};
 ghost use Rattle.certificate.specs.Writability.{IsListedOf};
 ghost use Rattle.certificate.specs.View.{listed_of};
-ghost use Rattle.listed_model.specs.Extensions.{AreExtensions, IsExtension};
+ghost use Rattle.listed_model.specs.Extensions.{IsExtension};
 ghost use Rattle.listed_model.specs.Rows.{AreClassRows, AreHolders};
 ghost use Rattle.listed_model.specs.Interpretations.{class_members};
-ghost use Rattle.listed_model.specs.Members.{holds, holds_each};
-ghost use Rattle.axioms.specs.View.{expr_numbers};
-ghost use Rattle.number_sets.specs.Pieces.{list_at};
 ghost use Rattle.std.specs.List.{range_with_len};
-ghost use Rattle.std.specs.List.Sorted.{IsStrictlyIncreasing};
-ghost use Rattle.std.specs.Prelude.{◌<◌, ◌∷◌, ◌≡◌, ◌⊎◌, Contains, IfOk, length, ℕ};
+ghost use Rattle.std.specs.Prelude.{◌<◌, ◌≤◌, ◌≡◌, Contains, IfOk, length};
 
-use crate::ascending::common;
-use crate::restriction::{holders_of, restriction};
+use crate::among::those_in;
+use crate::restriction::restriction;
 use crate::rows::elements_at;
 use axioms::{Expr, ExprId, Memory, Ontology};
 use certificate::Listed;
@@ -42,102 +39,108 @@ fn class_elements(alloc: Global, listed: &Listed, class: ExprId) -> Result<Vec<u
     Ok(Vec::from_slice(alloc, elements_at(&listed.classes, class))?)
 }
 
-// One of the operands, or the first: the one with the fewest elements.
-fn least_operand(made: &PackedLists, first: ExprId, operands: &[ExprId]) -> ExprId
-    ensures { (result ≡ first) ⊎ Contains operands.now result }
+// How many rows have one of the fillers among their targets, or the bound if that is less.
+fn rows_to(holders: &PackedLists, fillers: &[u32], bound: usize) -> usize
+    ensures { result ≤ bound }
 {
-    let mut least = first;
+    let mut count: usize = 0;
+    for filler in fillers {
+        count = count.saturating_add(holders.len_at(*filler as usize));
+        if count >= bound {
+            return bound;
+        }
+    }
+    count.min(bound)
+}
+
+// How many elements the class has, or the bound if that is less.
+fn class_breadth(listed: &Listed, class: ExprId, bound: usize) -> usize
+    requires { AreClassRows listed.now.classes.items }
+    ensures { result ≤ bound }
+{
+    if class == ExprId::THING {
+        return bound.min(listed.domain as usize);
+    }
+    bound.min(elements_at(&listed.classes, class).len())
+}
+
+// About how many steps it takes to list the elements of the expression, or the bound if that is less.
+fn breadth(
+    ontology: &Ontology,
+    listed: &Listed,
+    holders: &PackedLists,
+    expression: ExprId,
+    bound: usize,
+) -> usize
+    requires { AreClassRows listed.now.classes.items }
+    ensures { result ≤ bound }
+{
+    match ontology.expr(expression) {
+        Some(Expr::Class(_)) => class_breadth(listed, expression, bound),
+        Some(Expr::And(operands)) => {
+            let mut least = bound;
+            for operand in operands {
+                least = breadth(ontology, listed, holders, *operand, least);
+            }
+            least
+        }
+        Some(Expr::Some(_, filler)) => {
+            let fillers = breadth(ontology, listed, holders, *filler, bound);
+            let rows = rows_to(holders, elements_at(&listed.classes, *filler), bound);
+            fillers.max(rows)
+        }
+        None => bound,
+    }
+}
+
+// One of the operands: the one whose elements are listed soonest.
+fn least_operand(
+    ontology: &Ontology,
+    listed: &Listed,
+    holders: &PackedLists,
+    operands: &[ExprId],
+) -> ExprId
+    requires rows { AreClassRows listed.now.classes.items }
+    requires some { 0 < length operands.now }
+    ensures { Contains operands.now result }
+{
+    let mut least = operands[0];
+    let mut bound = usize::MAX;
     for operand in operands {
-        if made.len_at(operand.index()) < made.len_at(least.index()) {
+        let found = breadth(ontology, listed, holders, *operand, bound);
+        if found < bound {
             least = *operand;
+            bound = found;
         }
     }
     least
 }
 
-// The elements of the first that each operand has.
-fn in_each(
-    alloc: Global,
-    made: &PackedLists,
-    first: ExprId,
-    operands: &[ExprId],
-) -> Result<Vec<u32>, Memory>
-    requires { (e : ℕ) → IsStrictlyIncreasing (list_at made.now e) }
-    ensures ascending { IfOk result (λ both. IsStrictlyIncreasing both.items) }
-    ensures members { IfOk result (λ both. (x : ℕ) → holds both.items x ≡ holds_each made.now (first.0 ∷ expr_numbers operands.now) x) }
-{
-    let mut both = Vec::from_slice(alloc, made.at(first.index()))?;
-    for operand in operands {
-        both = common(alloc, &both, made.at(operand.index()))?;
-    }
-    Ok(both)
-}
-
-// The elements that each operand has.
-fn intersection(alloc: Global, made: &PackedLists, operands: &[ExprId]) -> Result<Vec<u32>, Memory>
-    requires some { 0 < length operands.now }
-    requires made { (e : ℕ) → IsStrictlyIncreasing (list_at made.now e) }
-    ensures ascending { IfOk result (λ both. IsStrictlyIncreasing both.items) }
-    ensures members { IfOk result (λ both. (x : ℕ) → holds both.items x ≡ holds_each made.now (expr_numbers operands.now) x) }
-{
-    let least = least_operand(made, operands[0], operands);
-    in_each(alloc, made, least, operands)
-}
-
-// The elements of the expression, from those of the expressions before it.
-fn extension(
+/// The elements of the expression, ascending.
+pub(crate) fn elements_of(
     alloc: Global,
     ontology: &Ontology,
     listed: &Listed,
     holders: &PackedLists,
-    made: &PackedLists,
     expression: ExprId,
 ) -> Result<Vec<u32>, Memory>
-    requires holders { AreHolders listed.now.pairs.items listed.now.domain holders.now }
     requires listed { IsListedOf ontology.now (listed_of listed.now) }
-    requires made { AreExtensions ontology.now (listed_of listed.now) made.now }
-    requires next { expression.0 ≡ length made.now }
+    requires holders { AreHolders listed.now.pairs.items listed.now.domain holders.now }
     requires there { expression.0 < length ontology.now.nodes }
     ensures { IfOk result (λ elements. IsExtension ontology.now (listed_of listed.now) expression.0 elements.items) }
 {
     match ontology.expr(expression) {
         Some(Expr::Class(_)) => class_elements(alloc, listed, expression),
-        Some(Expr::And(operands)) => intersection(alloc, made, operands),
-        Some(Expr::Some(property, filler)) => restriction(
-            alloc,
-            &listed.pairs,
-            holders,
-            *property,
-            made.at(filler.index()),
-        ),
+        Some(Expr::And(operands)) => {
+            let least = least_operand(ontology, listed, holders, operands);
+            let elements = elements_of(alloc, ontology, listed, holders, least)?;
+            those_in(alloc, ontology, listed, expression, &elements)
+        }
+        Some(Expr::Some(property, filler)) => {
+            let fillers = elements_of(alloc, ontology, listed, holders, *filler)?;
+            restriction(alloc, &listed.pairs, holders, *property, &fillers)
+        }
         // The expression is one of the ontology.
         None => unreachable!(),
     }
-}
-
-/// The elements of each expression.
-pub(crate) fn extensions(
-    alloc: Global,
-    ontology: &Ontology,
-    listed: &Listed,
-) -> Result<PackedLists, Memory>
-    requires { IsListedOf ontology.now (listed_of listed.now) }
-    ensures each { IfOk result (λ made. AreExtensions ontology.now (listed_of listed.now) made) }
-    ensures count { IfOk result (λ made. length made ≡ length ontology.now.nodes) }
-{
-    ontology.bounded();
-    let holders = holders_of(alloc, &listed.pairs, listed.domain)?;
-    let mut made = PackedLists::new(alloc);
-    for number in 0..ontology.expression_count() {
-        let elements = extension(
-            alloc,
-            ontology,
-            listed,
-            &holders,
-            &made,
-            ExprId(number as u32),
-        )?;
-        made.push_list(&elements)?;
-    }
-    Ok(made)
 }

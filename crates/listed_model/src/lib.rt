@@ -1,6 +1,7 @@
 //! Whether a listed interpretation satisfies axioms, at a cost that goes by its members.
 #![tactic(auto)]
 
+mod among;
 mod ascending;
 mod class_axioms;
 mod extension;

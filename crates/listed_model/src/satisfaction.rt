@@ -6,20 +6,18 @@ ghost use Rattle.certificate.specs.Writability.{IsListedOf};
 ghost use Rattle.certificate.specs.View.{listed_of, pair_row_of};
 ghost use Rattle.interpretation_spec.specs.NamedInterpretation.{IsFirstUnsatisfied};
 ghost use Rattle.interpretation_spec.specs.Interpretation.{Interpretation, IsInterpretation, IsModel};
-ghost use Rattle.listed_model.specs.Extensions.{AreExtensions};
 ghost use Rattle.listed_model.specs.Interpretations.{SatisfiesListed, listed_interpretation};
 ghost use Rattle.listed_model.specs.Listing.{IsListing, element_of, targets_of};
 ghost use Rattle.listed_model.specs.Members.{holds};
-ghost use Rattle.listed_model.specs.Rows.{ArePairRows, HasListedPath};
+ghost use Rattle.listed_model.specs.Rows.{AreHolders, ArePairRows, HasListedPath};
 ghost use Rattle.listed_model.specs.PropertyTests.{AreShown};
 ghost use Rattle.std.specs.Prelude.{◌≡◌, ◌↔◌, ◌<◌, IfOk, IsNone, IfSome, IsTrue, List, MatchOption, OnOk, length, map, true, ℕ};
 
-use crate::ascending::stands_in;
-use crate::class_axioms::{are_apart, are_same, is_within};
-use crate::extension::extensions;
+use crate::class_axioms::{are_apart, are_same, has_domain, is_in, is_within};
 use crate::individual_axioms::{element_at, have_one_element, have_own_elements};
 use crate::paths::is_chain_within;
-use crate::property_axioms::{are_same_properties, has_sources_in, is_reflexive, leads_to};
+use crate::property_axioms::{are_same_properties, is_reflexive, leads_to};
+use crate::restriction::holders_of;
 use crate::shown::{Shown, is_closed, lies_within};
 use axioms::{Axiom, IndId, Memory, Ontology, PropId};
 use certificate::{Listed, PairRow};
@@ -91,13 +89,12 @@ fn satisfies(
     alloc: Global,
     ontology: &Ontology,
     listed: &Listed,
-    made: &PackedLists,
+    holders: &PackedLists,
     room: &mut Room,
     axiom: &Axiom,
 ) -> Result<bool, Memory>
     requires listed { IsListedOf ontology.now (listed_of listed.now) }
-    requires made { AreExtensions ontology.now (listed_of listed.now) made.now }
-    requires count { length made.now ≡ length ontology.now.nodes }
+    requires holders { AreHolders listed.now.pairs.items listed.now.domain holders.now }
     requires room { length room.old.seen ≡ listed.now.domain }
     requires shown { AreShown (map pair_row_of listed.now.pairs.items) room.old.shown }
     requires of { IsAxiomOf ontology.now (axiom_of «axiom».now) }
@@ -107,20 +104,18 @@ fn satisfies(
 {
     ontology.well_formed();
     match axiom {
-        Axiom::SubClass(sub, sup) => Ok(is_within(made, *sub, *sup)),
-        Axiom::EquivalentClasses(operands) => Ok(are_same(made, operands)),
-        Axiom::DisjointClasses(operands) => Ok(are_apart(made, &mut room.seen, operands)),
+        Axiom::SubClass(sub, sup) => is_within(alloc, ontology, listed, holders, *sub, *sup),
+        Axiom::EquivalentClasses(operands) => are_same(alloc, ontology, listed, holders, operands),
+        Axiom::DisjointClasses(operands) => {
+            are_apart(alloc, ontology, listed, holders, &mut room.seen, operands)
+        }
         Axiom::SubProperty(chain, above) => {
             is_sub_property(alloc, &listed.pairs, room, chain, *above)
         }
         Axiom::EquivalentProperties(properties) => {
             Ok(are_same_properties(&listed.pairs, properties))
         }
-        Axiom::Domain(property, class) => Ok(has_sources_in(
-            &listed.pairs,
-            *property,
-            made.at(class.index()),
-        )),
+        Axiom::Domain(property, class) => { has_domain(alloc, ontology, listed, *property, *class) }
         Axiom::Transitive(property) => {
             is_closed(
                 alloc,
@@ -132,10 +127,10 @@ fn satisfies(
             )
         }
         Axiom::Reflexive(property) => Ok(is_reflexive(&listed.pairs, listed.domain, *property)),
-        Axiom::ClassAssertion(class, individual) => Ok(stands_in(
-            made.at(class.index()),
-            element_at(&listed.individuals, *individual),
-        )),
+        Axiom::ClassAssertion(class, individual) => {
+            let element = element_at(&listed.individuals, *individual);
+            is_in(alloc, ontology, listed, *class, element)
+        }
         Axiom::PropertyAssertion(property, source, target) => {
             Ok(joins(listed, *property, *source, *target))
         }
@@ -158,18 +153,17 @@ fn first_failing(
     alloc: Global,
     ontology: &Ontology,
     listed: &Listed,
-    made: &PackedLists,
+    holders: &PackedLists,
 ) -> Result<Option<usize>, Memory>
     requires listed { IsListedOf ontology.now (listed_of listed.now) }
-    requires made { AreExtensions ontology.now (listed_of listed.now) made.now }
-    requires count { length made.now ≡ length ontology.now.nodes }
+    requires holders { AreHolders listed.now.pairs.items listed.now.domain holders.now }
     ensures model { IfOk result (λ found. IsNone found → IsModel (listed_interpretation ontology.now (listed_of listed.now)) (axiom_trees ontology.now)) }
     ensures first { IfOk result (λ found. IfSome found (IsFirstUnsatisfied ontology.now (listed_interpretation ontology.now (listed_of listed.now)))) }
 {
     ontology.well_formed();
     let mut room = Room::new(alloc, listed.domain as usize)?;
     for (index, axiom) in ontology.axioms().iter().enumerate() {
-        if !satisfies(alloc, ontology, listed, made, &mut room, axiom)? {
+        if !satisfies(alloc, ontology, listed, holders, &mut room, axiom)? {
             return Ok(Some(index + 1));
         }
     }
@@ -188,6 +182,6 @@ pub fn first_unsatisfied(
         × MatchOption found (IsModel i (axiom_trees ontology.now)) (IsFirstUnsatisfied ontology.now i)) }
 {
     ontology.well_formed();
-    let made = extensions(alloc, ontology, listed)?;
-    first_failing(alloc, ontology, listed, &made)
+    let holders = holders_of(alloc, &listed.pairs, listed.domain)?;
+    first_failing(alloc, ontology, listed, &holders)
 }

@@ -1,30 +1,21 @@
-use Rattle.std.proofs.Common.{◌≡◌, ◌↔◌, ◌<◌, ℕ, List, [], ◌∷◌, All, sym, ap, ◌∙◌, subst, refl, length, true, true≢false, arith, inl, inr}
-use Rattle.std.specs.List.Sorted.{IsStrictlyIncreasing}
-use Rattle.std.proofs.lemmas.Bool.{cases_lt, false_from_ne_true, not-true, not_from_false}
-use Rattle.std.proofs.lemmas.List.{get_or_past}
+use Rattle.std.proofs.Common.{◌≡◌, ◌↔◌, ◌<◌, ℕ, List, [], ◌∷◌, sym, ap, ◌∙◌, subst, refl, length, true, true≢false, arith}
+use Rattle.std.proofs.lemmas.Bool.{false_from_ne_true, not-true, not_from_false}
 use Rattle.std.proofs.lemmas.List.Elements.{All-cons, All-nil}
-use Rattle.axioms.specs.Ontology.{Ontology}
+use Rattle.axioms.specs.Axiom as tree
+use Rattle.axioms.specs.Ontology.{expression, individual_name}
+use Rattle.interpretation_spec.specs.Interpretation.{Satisfies}
+use Rattle.listed_model.specs.Interpretations.{listed_interpretation}
 use Rattle.axioms.specs.View.{prop_numbers, expr_numbers, ind_numbers}
 use Rattle.axioms.specs.WellFormedness.{AreOperands}
-use Rattle.certificate.specs.Certificate.{Listed}
 use Rattle.certificate.specs.View.{listed_of}
 use Rattle.interpretation_spec.proofs.Steps.{said_by}
-use Rattle.number_sets.specs.Pieces.{list_at}
-use Rattle.listed_model.specs.Extensions.{AreExtensions, IsExtension}
+use Rattle.listed_model.specs.Extensions.{IsElement}
 use Rattle.listed_model.specs.Listing.{element_of, targets_of}
 use Rattle.listed_model.specs.Members.{holds}
 use Rattle.listed_model.specs.Rows.{ArePairRows, ClosedAt, HasListedPath}
-use Rattle.listed_model.proofs.Extensions.{all_rise}
 use Rattle.listed_model.proofs.Given.{pair_rows_given}
 use Rattle.listed_model.proofs.Said.{within_said, all_same_said, all_apart_said, sub_property_said, same_properties_said, domain_said, reflexive_said, class_assertion_said, property_assertion_said, same_individuals_said, different_individuals_said}
 use Rattle.listed_model.proofs.satisfaction.satisfies.Goals as goal
-
--- members of the lists are elements
-all_within : (o : Ontology) (l : Listed) (made : List (List ℕ)) → AreExtensions o l made → (e x : ℕ) → holds (list_at made e) x ≡ true → x < l.domain
-all_within o l made each e x = elim (cases_lt e (length made)) [
-  | inl b ↦ λ h. (((each e b).members x).0 h).0
-  | inr b ↦ rw (get_or_past made e [] b) (λ h. absurd (true≢false (sym h)))
-]
 
 -- what a path of two along one property is
 two_steps : (rows : List (ℕ × ℕ × List ℕ)) (r : ℕ) → ((x : ℕ) → ClosedAt rows r x) ↔ ((x y : ℕ) → HasListedPath rows (r ∷ r ∷ []) x y → holds (targets_of rows r x) y ≡ true)
@@ -33,11 +24,23 @@ two_steps rows r = (
   λ h x z t v u. h x v (z, t, (v, u, refl)),
 )
 
-pub is_within-requires : goal.is_within-requires
-is_within-requires c = all_rise c.args.ontology.now (listed_of c.args.listed.now) c.args.made.now c.requires.made
+pub is_within-requires-clause-sub : goal.is_within-requires-clause-sub
+is_within-requires-clause-sub c = (rw c.in-SubClass.is at c.requires.of).0
 
-pub are_apart-requires : goal.are_apart-requires
-are_apart-requires c = λ e x h. subst (λ (n : ℕ). x < n) (sym c.requires.room) (all_within c.args.ontology.now (listed_of c.args.listed.now) c.args.made.now c.requires.made e x h)
+pub is_within-requires-clause-sup : goal.is_within-requires-clause-sup
+is_within-requires-clause-sup c = (rw c.in-SubClass.is at c.requires.of).1
+
+pub are_same-requires-clause-there : goal.are_same-requires-clause-there
+are_same-requires-clause-there c =
+    let ds = expr_numbers c.in-EquivalentClasses.operands.items in
+    let of : AreOperands (length c.args.ontology.now.nodes) ds = rw c.in-EquivalentClasses.is at c.requires.of in
+    rw c.deref.ensures.value of.within
+
+pub are_apart-requires-clause-there : goal.are_apart-requires-clause-there
+are_apart-requires-clause-there c =
+    let ds = expr_numbers c.in-DisjointClasses.operands.items in
+    let of : AreOperands (length c.args.ontology.now.nodes) ds = rw c.in-DisjointClasses.is at c.requires.of in
+    rw c.deref-in-DisjointClasses.ensures.value of.within
 
 pub is_sub_property-requires-clause-rows : goal.is_sub_property-requires-clause-rows
 is_sub_property-requires-clause-rows c = subst ArePairRows (sym c.deref-in-SubProperty.ensures.value) (pair_rows_given c.args.ontology.now c.args.listed.now c.requires.listed)
@@ -45,11 +48,8 @@ is_sub_property-requires-clause-rows c = subst ArePairRows (sym c.deref-in-SubPr
 pub are_same_properties-requires : goal.are_same_properties-requires
 are_same_properties-requires c = subst ArePairRows (sym c.deref-in-EquivalentProperties.ensures.value) (pair_rows_given c.args.ontology.now c.args.listed.now c.requires.listed)
 
-pub has_sources_in-requires-clause-rows : goal.has_sources_in-requires-clause-rows
-has_sources_in-requires-clause-rows c = subst ArePairRows (sym c.deref-in-Domain.ensures.value) (pair_rows_given c.args.ontology.now c.args.listed.now c.requires.listed)
-
-pub has_sources_in-requires-clause-members : goal.has_sources_in-requires-clause-members
-has_sources_in-requires-clause-members c = subst IsStrictlyIncreasing (sym c.at.ensures) (all_rise c.args.ontology.now (listed_of c.args.listed.now) c.args.made.now c.requires.made c.index.result)
+pub has_domain-requires-clause-there : goal.has_domain-requires-clause-there
+has_domain-requires-clause-there c = (rw c.in-Domain.is at c.requires.of).1
 
 pub is_closed-requires-clause-rows : goal.is_closed-requires-clause-rows
 is_closed-requires-clause-rows c = subst ArePairRows (sym c.deref-in-Transitive.ensures.value) (pair_rows_given c.args.ontology.now c.args.listed.now c.requires.listed)
@@ -57,45 +57,29 @@ is_closed-requires-clause-rows c = subst ArePairRows (sym c.deref-in-Transitive.
 pub is_reflexive-requires : goal.is_reflexive-requires
 is_reflexive-requires c = subst ArePairRows (sym c.deref-in-Reflexive.ensures.value) (pair_rows_given c.args.ontology.now c.args.listed.now c.requires.listed)
 
-pub stands_in-requires : goal.stands_in-requires
-stands_in-requires c = subst IsStrictlyIncreasing (sym c.at-in-ClassAssertion.ensures) (all_rise c.args.ontology.now (listed_of c.args.listed.now) c.args.made.now c.requires.made c.index-in-ClassAssertion.result)
+pub is_in-requires-clause-there : goal.is_in-requires-clause-there
+is_in-requires-clause-there c = (rw c.in-ClassAssertion.is at c.requires.of).0
 
 pub returns-in-SubClass-clause-satisfied : goal.returns-in-SubClass-clause-satisfied
 returns-in-SubClass-clause-satisfied c =
     let o = c.args.ontology.now in
     let l = listed_of c.args.listed.now in
-    let made = c.args.made.now in
-    let of = rw c.in-SubClass.is at c.requires.of in
-    let first = of.0 in
-    let second = of.1 in
-    let sub = c.in-SubClass.sub.0 in
-    let sup = c.in-SubClass.sup.0 in
-    let many = c.requires.count in
-    let said = within_said o c.well_formed-2.ensures l c.requires.listed sub sup (list_at made sub) (list_at made sup) (c.requires.made sub (omega arith)) (c.requires.made sup (omega arith)) in
-    let e = c.is_within.ensures in
-    rw c.in-SubClass.is (λ t. said.0 (sym e ∙ t), λ q. e ∙ said.1 q)
+    let said = within_said o c.well_formed-2.ensures l c.requires.listed c.in-SubClass.sub.0 c.in-SubClass.sup.0 in
+    rw c.in-SubClass.is (said_by said c.is_within.result c.is_within.ensures)
 
 pub returns-in-EquivalentClasses-clause-satisfied : goal.returns-in-EquivalentClasses-clause-satisfied
 returns-in-EquivalentClasses-clause-satisfied c =
     let o = c.args.ontology.now in
     let l = listed_of c.args.listed.now in
-    let made = c.args.made.now in
-    let of = rw c.in-EquivalentClasses.is at c.requires.of in
-    let ds = expr_numbers c.in-EquivalentClasses.operands.items in
-    let said = all_same_said o c.well_formed-2.ensures l c.requires.listed made c.requires.made ds (subst (λ (n : ℕ). All (λ d. d < n) ds) (sym c.requires.count) of.within) in
-    let e = rw c.deref.ensures.value at c.are_same.ensures in
-    rw c.in-EquivalentClasses.is (λ t. said.0 (e.0 t), λ q. e.1 (said.1 q))
+    let said = all_same_said o c.well_formed-2.ensures l c.requires.listed (expr_numbers c.in-EquivalentClasses.operands.items) in
+    rw c.in-EquivalentClasses.is (said_by said c.are_same.result (rw c.deref.ensures.value at c.are_same.ensures))
 
 pub returns-in-DisjointClasses-clause-satisfied : goal.returns-in-DisjointClasses-clause-satisfied
 returns-in-DisjointClasses-clause-satisfied c =
     let o = c.args.ontology.now in
     let l = listed_of c.args.listed.now in
-    let made = c.args.made.now in
-    let of = rw c.in-DisjointClasses.is at c.requires.of in
-    let ds = expr_numbers c.in-DisjointClasses.operands.items in
-    let said = all_apart_said o c.well_formed-2.ensures l c.requires.listed made c.requires.made ds (subst (λ (n : ℕ). All (λ d. d < n) ds) (sym c.requires.count) of.within) in
-    let e = rw c.deref-in-DisjointClasses.ensures.value at c.are_apart.ensures.apart in
-    rw c.in-DisjointClasses.is (λ t. said.0 (e.0 t), λ q. e.1 (said.1 q))
+    let said = all_apart_said o c.well_formed-2.ensures l c.requires.listed (expr_numbers c.in-DisjointClasses.operands.items) in
+    rw c.in-DisjointClasses.is (said_by said c.are_apart.result (rw c.deref-in-DisjointClasses.ensures.value at c.are_apart.ensures.apart))
 
 pub returns-in-SubProperty-clause-satisfied : goal.returns-in-SubProperty-clause-satisfied
 returns-in-SubProperty-clause-satisfied c =
@@ -119,15 +103,9 @@ pub returns-in-Domain-clause-satisfied : goal.returns-in-Domain-clause-satisfied
 returns-in-Domain-clause-satisfied c =
     let o = c.args.ontology.now in
     let l = listed_of c.args.listed.now in
-    let made = c.args.made.now in
     let of = rw c.in-Domain.is at c.requires.of in
-    let second = of.1 in
-    let many = c.requires.count in
-    let d = c.in-Domain.class.0 in
-    let read = c.at.ensures ∙ ap (list_at made) c.index.ensures in
-    let said = domain_said o c.well_formed-2.ensures l c.requires.listed c.in-Domain.property.0 d c.at.result.now of.0 (subst (IsExtension o l d) (sym read) (c.requires.made d (omega arith))) in
-    let e = rw c.deref-in-Domain.ensures.value at c.has_sources_in.ensures in
-    rw c.in-Domain.is (λ t. said.0 (e.0 t), λ q. e.1 (said.1 q))
+    let said = domain_said o c.well_formed-2.ensures l c.requires.listed c.in-Domain.property.0 c.in-Domain.class.0 of.0 in
+    rw c.in-Domain.is (said_by said c.has_domain.result c.has_domain.ensures)
 
 pub returns-in-Transitive-clause-satisfied : goal.returns-in-Transitive-clause-satisfied
 returns-in-Transitive-clause-satisfied c =
@@ -149,22 +127,27 @@ returns-in-Reflexive-clause-satisfied c =
     let e = rw c.deref-in-Reflexive.ensures.value at c.is_reflexive.ensures in
     rw c.in-Reflexive.is (λ t. said.0 (e.0 t), λ q. e.1 (said.1 q))
 
+pub is_in-requires-clause-element : goal.is_in-requires-clause-element
+is_in-requires-clause-element c =
+    let o = c.args.ontology.now in
+    let l = listed_of c.args.listed.now in
+    let of = rw c.in-ClassAssertion.is at c.requires.of in
+    let a = c.in-ClassAssertion.individual.0 in
+    let second : a < length o.names.individuals = of.1 in
+    let at : c.element_at-element.result ≡ element_of l.individuals a = c.element_at-element.ensures ∙ ap (λ (ys : List ℕ). element_of ys a) c.deref-in-ClassAssertion.ensures.value in
+    subst (λ (x : ℕ). x < l.domain) (sym at) (c.requires.listed.individuals a 0 (omega (arith, c.requires.listed.individuals_each)))
+
 pub returns-in-ClassAssertion-clause-satisfied : goal.returns-in-ClassAssertion-clause-satisfied
 returns-in-ClassAssertion-clause-satisfied c =
     let o = c.args.ontology.now in
     let l = listed_of c.args.listed.now in
-    let made = c.args.made.now in
     let of = rw c.in-ClassAssertion.is at c.requires.of in
-    let first = of.0 in
-    let second = of.1 in
-    let many = c.requires.count in
     let d = c.in-ClassAssertion.class.0 in
     let a = c.in-ClassAssertion.individual.0 in
-    let read = c.at-in-ClassAssertion.ensures ∙ ap (list_at made) c.index-in-ClassAssertion.ensures in
-    let xs = c.at-in-ClassAssertion.result.now in
-    let said = class_assertion_said o c.well_formed-2.ensures l c.requires.listed d a xs second (subst (IsExtension o l d) (sym read) (c.requires.made d (omega arith))) in
-    let e = c.stands_in.ensures ∙ ap (holds xs) (c.element_at.ensures ∙ ap (λ (ys : List ℕ). element_of ys a) c.deref-in-ClassAssertion.ensures.value) in
-    rw c.in-ClassAssertion.is (λ t. said.0 (sym e ∙ t), λ q. e ∙ said.1 q)
+    let said = class_assertion_said o c.well_formed-2.ensures l c.requires.listed d a of.1 in
+    let at : c.element_at-element.result ≡ element_of l.individuals a = c.element_at-element.ensures ∙ ap (λ (ys : List ℕ). element_of ys a) c.deref-in-ClassAssertion.ensures.value in
+    let here = subst (λ (x : ℕ). IsElement o l d x ↔ Satisfies (listed_interpretation o l) (tree.ClassAssertion (expression o d) (individual_name o a))) (sym at) said in
+    rw c.in-ClassAssertion.is (said_by here c.is_in.result c.is_in.ensures)
 
 pub joins-requires-clause-rows : goal.joins-requires-clause-rows
 joins-requires-clause-rows c = pair_rows_given c.args.ontology.now c.args.listed.now c.requires.listed

@@ -1,0 +1,18 @@
+use Rattle.std.proofs.Common.{sym, ap, ◌∙◌}
+use Rattle.std.proofs.lemmas.List.Kept.{AllPairs-from_increasing}
+use Rattle.std.proofs.lemmas.Slice.Eq.{bytes_eq-Decides}
+use Rattle.listed_model.specs.Members.{holds}
+use Rattle.listed_model.proofs.Said.{same_members}
+use Rattle.listed_model.proofs.class_axioms.are_in.Goals as goal
+
+pub returns : goal.returns
+returns c =
+    let elements = c.args.elements.now in
+    let those = c.in_ok-those.those.items in
+    let said = c.in_ok-those.ensures in
+    let value = c.as_slice.ensures.value in
+    let decides = bytes_eq-Decides c.as_slice.result.now elements in (
+      λ t x h. (let same = decides.0 (sym c.eq.ensures ∙ t) in ((said.members x).0 (ap (λ xs. holds xs x) (sym value ∙ same) ∙ h)).1),
+      λ h. c.eq.ensures ∙ decides.1 (value ∙ same_members those elements (AllPairs-from_increasing those said.ascending) (AllPairs-from_increasing elements c.requires.elements.ascending)
+          (λ z. (λ m. ((said.members z).0 m).0, λ m. (said.members z).1 (m, h z m)))),
+    )

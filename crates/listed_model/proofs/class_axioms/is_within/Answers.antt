@@ -1,0 +1,18 @@
+use Rattle.std.proofs.Common.{sym, subst}
+use Rattle.std.proofs.lemmas.Result.{IfOk-weaker}
+use Rattle.certificate.specs.View.{listed_of}
+use Rattle.listed_model.specs.Extensions.{IsExtension}
+use Rattle.listed_model.proofs.class_axioms.is_within.Goals as goal
+
+pub returns : goal.returns
+returns c =
+    let o = c.args.ontology.now in
+    let l = listed_of c.args.listed.now in
+    let sub = c.args.sub.0 in
+    let from : IsExtension o l sub c.deref.result.now = subst (IsExtension o l sub) (sym c.deref.ensures.value) c.in_ok-elements.ensures in
+    IfOk-weaker c.are_in.result _ _
+    (λ v h. (
+      λ t x e. h.0 t x ((from.members x).1 e),
+      λ q. h.1 (λ x m. q x ((from.members x).0 m)),
+    ))
+    c.are_in.ensures
