@@ -67,3 +67,5 @@ mod stretches;
 mod taken_out;
 #[cfg(test)]
 mod targets;
+#[cfg(test)]
+mod two_keys;

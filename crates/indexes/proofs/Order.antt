@@ -156,8 +156,8 @@ pub in_order_more : (forms : List Form) (starts original xs ys : List ℕ) (i ne
     → AreInOrderTo forms starts original (put_mid (slice_index starts i) (slice_index starts next - slice_index starts i) xs ys) (next + 1)
 in_order_more forms starts original xs ys i next is within =
     subst (λ (n : ℕ). n < length starts → AreInOrderTo forms starts original xs n
-        → IsPermutation (take (slice_index starts n - slice_index starts i) (drop (slice_index starts i) xs)) ys → IsInOrder forms ys
-        → AreInOrderTo forms starts original (put_mid (slice_index starts i) (slice_index starts n - slice_index starts i) xs ys) (n + 1)) is
+    → IsPermutation (take (slice_index starts n - slice_index starts i) (drop (slice_index starts i) xs)) ys → IsInOrder forms ys
+    → AreInOrderTo forms starts original (put_mid (slice_index starts i) (slice_index starts n - slice_index starts i) xs ys) (n + 1)) is
     (λ low were moved order. subst (AreInOrderTo forms starts original (put_mid (slice_index starts i) (slice_index starts (i + 1) - slice_index starts i) xs ys)) (omega arith) (one_more forms starts original xs ys i within low were moved order))
 
 -- all are, once the last start is the next

@@ -166,8 +166,7 @@ module _ (k : Problem) {closure : Known} (closed : IsClosureOf k.forms closure) 
   edges_have {d} s (n ∷ m ∷ ns) (Edge x r y ∷ Edge z o v ∷ []) p q at e =
       let here : slice_get d.facts n ≡ Some (Edge x r y) = cc in
       let behind : slice_get d.facts m ≡ Some (Edge z o v) = cc in
-      let same = same_Some _ _ e in
-      (
+      let same = same_Some _ _ e in (
         subst (Has closure) (ap (λ (pair : PropId2 × PropId2). pair.0) same) (first_edge s n (Edge x r y) here x r y refl),
         subst (Has closure) (ap (λ (pair : PropId2 × PropId2). pair.1) same) (first_edge s m (Edge z o v) behind z o v refl),
       )

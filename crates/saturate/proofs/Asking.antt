@@ -17,7 +17,7 @@ use Rattle.facts.specs.declared.contexts.Context.TheVariants.{Expr, Individual}
 use Rattle.facts.specs.declared.contexts.Fact.TheVariants.{Edge}
 use Rattle.facts.specs.Closure.{thing}
 use Rattle.indexes.specs.declared.keys.Key.TheVariants.{Whole}
-use Rattle.indexes.specs.Keys.{class_key, property_key, individual_key, by_kind, by_alone, by_first, by_filler, by_chain, by_plain, by_linked_first, by_linked_second, by_denied}
+use Rattle.indexes.specs.Keys.{class_key, property_key, individual_key, by_kind, by_alone, by_first, by_filler, by_chain, by_plain, by_linked_first, by_linked_second, by_denied, by_target}
 use Rattle.indexes.specs.FormsUnderKeys.{IsUnder}
 use Rattle.saturate.specs.Requests.{BeginsWith, Denies, HasForm, NamesAbove, NamesClass, NamesIndividual}
 use Rattle.inference.proofs.Lists.{Contains-from_slice_get, slice_get-from_Contains}
@@ -292,20 +292,35 @@ module _ (i : IndId) where
   denied_key all p y (N10 _ _) h = absurd h
   denied_key all p y (N11 _ _) h = absurd h
 
--- an edge from an expression is not denied
-pub none_denied : (all : List Form) (e : ExprId) (p : PropId2) (y : Context) (form : Form) → Denies all form (Edge (Expr e) p y) → ⊥
-none_denied all e p y (N12 a r b) h = absurd (cc)
-none_denied all e p y (N1 _ _) h = absurd h
-none_denied all e p y (N2 _ _ _) h = absurd h
-none_denied all e p y (N3 _ _ _) h = absurd h
-none_denied all e p y (N4 _ _ _) h = absurd h
-none_denied all e p y (N5 _ _) h = absurd h
-none_denied all e p y (N6 _ _ _) h = absurd h
-none_denied all e p y (N7 _) h = absurd h
-none_denied all e p y (N8 _ _) h = absurd h
-none_denied all e p y (N9 _ _ _) h = absurd h
-none_denied all e p y (N10 _ _) h = absurd h
-none_denied all e p y (N11 _ _) h = absurd h
+  -- and one that denies an edge to it is under its key
+  pub target_key : (all : List Form) (p : PropId2) (x : Context) (form : Form) → Denies all form (Edge x p (Individual i)) → by_target form ≡ Some (individual_key i)
+  target_key all p x (N12 a r b) h = ap (λ j. Some (individual_key j)) (sym (one_individual i b h.1))
+  target_key all p x (N1 _ _) h = absurd h
+  target_key all p x (N2 _ _ _) h = absurd h
+  target_key all p x (N3 _ _ _) h = absurd h
+  target_key all p x (N4 _ _ _) h = absurd h
+  target_key all p x (N5 _ _) h = absurd h
+  target_key all p x (N6 _ _ _) h = absurd h
+  target_key all p x (N7 _) h = absurd h
+  target_key all p x (N8 _ _) h = absurd h
+  target_key all p x (N9 _ _ _) h = absurd h
+  target_key all p x (N10 _ _) h = absurd h
+  target_key all p x (N11 _ _) h = absurd h
+
+-- an edge that is denied is one between individuals
+pub denied_ends : (all : List Form) (x : Context) (p : PropId2) (y : Context) (form : Form) → Denies all form (Edge x p y) → (a : IndId) × (b : IndId) × (x ≡ Individual a) × (y ≡ Individual b)
+denied_ends all x p y (N12 a r b) h = (a, b, h.0, h.1)
+denied_ends all x p y (N1 _ _) h = absurd h
+denied_ends all x p y (N2 _ _ _) h = absurd h
+denied_ends all x p y (N3 _ _ _) h = absurd h
+denied_ends all x p y (N4 _ _ _) h = absurd h
+denied_ends all x p y (N5 _ _) h = absurd h
+denied_ends all x p y (N6 _ _ _) h = absurd h
+denied_ends all x p y (N7 _) h = absurd h
+denied_ends all x p y (N8 _ _) h = absurd h
+denied_ends all x p y (N9 _ _ _) h = absurd h
+denied_ends all x p y (N10 _ _) h = absurd h
+denied_ends all x p y (N11 _ _) h = absurd h
 
 -- what is such is so in another way
 pub asked_as : (P Q : Form → Type 0) (added : List Form) → ((form : Form) → P form → Q form) → HasForm P added → HasForm Q added

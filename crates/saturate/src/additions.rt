@@ -197,20 +197,27 @@ fn denies_at(
     }
 }
 
-/// Whether one of the added forms denies the edge from an individual.
-fn denied_from(
+/// Whether one of the added forms denies the edge between two individuals.
+fn denied_between(
     added: &IndexedProblem,
     closure: &PropertyClosure,
     source: IndId,
     property: PropId2,
-    target: Context,
+    target: IndId,
 ) -> bool
     requires { Has closure.now property }
-    ensures yes { result ≡ true → HasUnder closure.now (λ all form. Denies all form (the_facts.Edge (the_contexts.Individual source) property target)) added.now.forms }
-    ensures no { result ≡ false → LacksUnder closure.now (λ all form. Denies all form (the_facts.Edge (the_contexts.Individual source) property target)) added.now.forms }
+    ensures yes { result ≡ true → HasUnder closure.now (λ all form. Denies all form (the_facts.Edge (the_contexts.Individual source) property (the_contexts.Individual target))) added.now.forms }
+    ensures no { result ≡ false → LacksUnder closure.now (λ all form. Denies all form (the_facts.Edge (the_contexts.Individual source) property (the_contexts.Individual target))) added.now.forms }
 {
-    for number in added.denied(source) {
-        if denies_at(added, closure, *number, source, property, target) {
+    for number in added.denied_between(source, target) {
+        if denies_at(
+            added,
+            closure,
+            *number,
+            source,
+            property,
+            Context::Individual(target),
+        ) {
             return true;
         }
     }
@@ -229,11 +236,11 @@ fn asks_for_denied(
     ensures yes { result ≡ true → HasUnder closure.now (λ all form. Denies all form (the_facts.Edge source property target)) added.now.forms }
     ensures no { result ≡ false → LacksUnder closure.now (λ all form. Denies all form (the_facts.Edge source property target)) added.now.forms }
 {
-    match source {
-        Context::Individual(individual) => {
-            denied_from(added, closure, individual, property, target)
+    match (source, target) {
+        (Context::Individual(source), Context::Individual(target)) => {
+            denied_between(added, closure, source, property, target)
         }
-        Context::Expr(_) => false,
+        _ => false,
     }
 }
 
