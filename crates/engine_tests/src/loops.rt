@@ -47,9 +47,11 @@ fn waits<W: WorkList>(state: &mut State<W>, alloc: Global) -> Result<bool, Memor
     let stopped = many(state, alloc, REFLEXIVE, ROOTS, 8, Err(Stop::Limit))?;
     let ended = many(state, alloc, &[], &[], 100, Ok(()))?;
     let more = many(state, alloc, &[Form::N7(U)], &[], 100, Ok(()))?;
-    Ok(stopped == Some((AT_ONCE, AT_ONCE + 1))
-        && ended == Some((AT_ONCE + 1, WITH_LOOPS))
-        && more == Some((WITH_LOOPS, WITH_LOOPS + ROOTS.len())))
+    Ok(
+        stopped == Some((AT_ONCE, AT_ONCE + 1))
+            && ended == Some((AT_ONCE + 1, WITH_LOOPS))
+            && more == Some((WITH_LOOPS, WITH_LOOPS + ROOTS.len())),
+    )
 }
 
 /// Whether a state does. It is made and dropped here alone.
