@@ -26,7 +26,7 @@ use Rattle.engine.specs.Saturations.{IsSaturated, Saturated}
 use Rattle.normalise.specs.Problem.{prefixes_of}
 use Rattle.property_closure.specs.PropertyClosures.{Known, Has}
 use Rattle.inference.specs.PropertyClosures.{IsClosureOf}
-use Rattle.inference.proofs.Edges.{edge_has}
+use Rattle.inference.proofs.Edges as edges
 use Rattle.countermodel.specs.declared.pair.Pair.{Pair}
 use Rattle.countermodel.specs.Edges.{IsGiven, IsGivenBy}
 use Rattle.countermodel.specs.Pairs.{AreGrouped, Row, pair}
@@ -133,7 +133,7 @@ module _ (o : Ontology) (s : Saturated) (saturated : IsSaturated o s) (k : Known
   has_property x y q there =
       let f = facts.Edge x q y in
       let (n, at) = slice_get-from_Contains s.state.facts f there in
-      edge_has s.state.problem closed saturated.state.born (n ∷ n ∷ []) (f ∷ f ∷ []) q (ap (λ z. z ∷ z ∷ []) at) refl
+      edges.has_property s.state.problem closed saturated.state.born n f at
 
   sayer_edge : (x y : Context) (q r m n : ℕ) → slice_get elements m ≡ Some x → slice_get elements n ≡ Some y → IsAtOrBelow o asked (Property q) (Property r)
       → (f : code_fact.Fact) → Contains s.state.facts f → SaysFact begun f (Edge x (Property q) y) → IsGivenBy k elements f (pair r m n)
