@@ -23,7 +23,7 @@ use Rattle.interpretation_spec.proofs.Extensions.{in_intersection, each_of_inter
 use Rattle.listed_model.specs.Listing.{targets_of}
 use Rattle.listed_model.specs.Interpretations.{class_members, listed_interpretation}
 use Rattle.listed_model.specs.Members.{holds}
-use Rattle.listed_model.specs.Extensions.{IsElement, IsExtension}
+use Rattle.listed_model.specs.Extensions.{AreThose, IsElement, IsExtension}
 use Rattle.listed_model.specs.Rows.{SomeBefore, ArePairRows, Joined}
 use Rattle.listed_model.proofs.Members.{holds_from_Contains, Contains_from_holds}
 use Rattle.listed_model.proofs.Interpreted.{class_is, property_is, size_is, range_has}
@@ -202,4 +202,17 @@ module _ (o : Ontology) (w : IsOntology o) (l : Listed) (fits : IsListedOf o l) 
           λ h. (let (y, t, f) = (is x).0 h in some.1 (y, t, (filled.members y).0 f)),
           λ h. (let (y, t, f) = some.0 h in (is x).1 (y, t, (filled.members y).1 f)),
         ));
+  }
+
+  -- of the elements of an operand those that are of the intersection are all of these
+  pub and_extension : (e : ℕ) (ds : List ℕ) → slice_get o.nodes e ≡ Some (And ds) → (d : ℕ) → Contains ds d → (xs those : List ℕ) → IsExtension o l d xs → AreThose o l e xs those
+      → IsExtension o l e those
+  and_extension e ds g d among xs those from are = record {
+    ascending = are.ascending;
+    members = λ x.
+        let both = and_elements e ds g x in
+        let P : ℕ → Type 0 = λ (d : ℕ). IsElement o l d x in (
+          λ m. ((are.members x).0 m).1,
+          λ h. (are.members x).1 ((from.members x).1 (All-contains P ds d (both.0 h) among), h),
+        );
   }

@@ -9,3 +9,4 @@ pub mod Holding
 pub mod Keys
 pub mod Covering
 pub mod Passed
+pub mod Held

@@ -5,3 +5,4 @@ pub mod Rows
 pub mod Extensions
 pub mod PropertyTests
 pub mod WideRows
+pub mod Keeping

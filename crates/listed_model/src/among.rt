@@ -3,6 +3,7 @@ ghost use Rattle.certificate.specs.View.{listed_of, pair_row_of};
 ghost use Rattle.certificate.specs.Writability.{IsListedOf};
 ghost use Rattle.listed_model.specs.Extensions.{AreAscending, AreThose};
 ghost use Rattle.listed_model.specs.Interpretations.{class_members};
+ghost use Rattle.listed_model.specs.Keeping.{AreKept};
 ghost use Rattle.listed_model.specs.Listing.{targets_of};
 ghost use Rattle.listed_model.specs.Members.{holds};
 ghost use Rattle.listed_model.specs.Rows.{AreClassRows, ArePairRows, Joined};
@@ -10,6 +11,7 @@ ghost use Rattle.std.specs.List.Sorted.{IsStrictlyIncreasing};
 ghost use Rattle.std.specs.Prelude.{◌<◌, ◌≡◌, ◌↔◌, IfOk, length, map, true, ℕ};
 
 use crate::ascending::{common, put_in_order};
+use crate::kept::Kept;
 use crate::meeting::have_common;
 use crate::rows::{elements_at, rows_of, targets_at};
 use axioms::{Expr, ExprId, Memory, Ontology, PropId};
@@ -106,26 +108,31 @@ pub(crate) fn those_in(
     alloc: Global,
     ontology: &Ontology,
     listed: &Listed,
+    kept: &Kept,
     expression: ExprId,
     elements: &[u32],
 ) -> Result<Vec<u32>, Memory>
     requires listed { IsListedOf ontology.now (listed_of listed.now) }
+    requires kept { AreKept ontology.now listed.now kept.now }
     requires there { expression.0 < length ontology.now.nodes }
     requires elements { AreAscending listed.now.domain elements.now }
     ensures { IfOk result (λ those. AreThose ontology.now (listed_of listed.now) expression.0 elements.now those.items) }
 {
+    if let Some(list) = kept.at(expression) {
+        return common(alloc, elements, list);
+    }
     match ontology.expr(expression) {
         Some(Expr::Class(_)) => class_among(alloc, listed, expression, elements),
         Some(Expr::And(operands)) => {
             let mut those = Vec::from_slice(alloc, elements)?;
             for operand in operands {
-                those = those_in(alloc, ontology, listed, *operand, &those)?;
+                those = those_in(alloc, ontology, listed, kept, *operand, &those)?;
             }
             Ok(those)
         }
         Some(Expr::Some(property, filler)) => {
             let targets = targets_from(alloc, &listed.pairs, *property, elements)?;
-            let fillers = those_in(alloc, ontology, listed, *filler, &targets)?;
+            let fillers = those_in(alloc, ontology, listed, kept, *filler, &targets)?;
             joined_among(alloc, &listed.pairs, *property, elements, &fillers)
         }
         // The expression is one of the ontology.

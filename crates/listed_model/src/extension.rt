@@ -3,12 +3,14 @@ ghost use Rattle.axioms.specs.View.{expr_numbers};
 ghost use Rattle.certificate.specs.Writability.{IsListedOf};
 ghost use Rattle.certificate.specs.View.{listed_of};
 ghost use Rattle.listed_model.specs.Extensions.{IsExtension};
-ghost use Rattle.listed_model.specs.Rows.{AreClassRows, AreHolders};
+ghost use Rattle.listed_model.specs.Keeping.{AreKept};
+ghost use Rattle.listed_model.specs.Rows.{AreClassRows};
 ghost use Rattle.listed_model.specs.Interpretations.{class_members};
 ghost use Rattle.std.specs.List.{range_with_len};
 ghost use Rattle.std.specs.Prelude.{◌<◌, ◌≤◌, ◌≡◌, Contains, IfOk, length};
 
 use crate::among::those_in;
+use crate::kept::Kept;
 use crate::restriction::restriction;
 use crate::rows::elements_at;
 use axioms::{Expr, ExprId, Memory, Ontology};
@@ -26,7 +28,12 @@ fn all_elements(alloc: Global, domain: u32) -> Result<Vec<u32>, Memory>
     Ok(all)
 }
 
-fn class_elements(alloc: Global, listed: &Listed, class: ExprId) -> Result<Vec<u32>, Memory>
+/// The elements of the class, ascending.
+pub(crate) fn class_elements(
+    alloc: Global,
+    listed: &Listed,
+    class: ExprId,
+) -> Result<Vec<u32>, Memory>
     requires { AreClassRows listed.now.classes.items }
     ensures { IfOk result (λ elements. elements.items ≡ class_members (listed_of listed.now) class.0) }
 {
@@ -121,24 +128,27 @@ pub(crate) fn elements_of(
     alloc: Global,
     ontology: &Ontology,
     listed: &Listed,
-    holders: &PackedLists,
+    kept: &Kept,
     expression: ExprId,
 ) -> Result<Vec<u32>, Memory>
     requires listed { IsListedOf ontology.now (listed_of listed.now) }
-    requires holders { AreHolders listed.now.pairs.items listed.now.domain holders.now }
+    requires kept { AreKept ontology.now listed.now kept.now }
     requires there { expression.0 < length ontology.now.nodes }
     ensures { IfOk result (λ elements. IsExtension ontology.now (listed_of listed.now) expression.0 elements.items) }
 {
+    if let Some(list) = kept.at(expression) {
+        return Ok(Vec::from_slice(alloc, list)?);
+    }
     match ontology.expr(expression) {
         Some(Expr::Class(_)) => class_elements(alloc, listed, expression),
         Some(Expr::And(operands)) => {
-            let least = least_operand(ontology, listed, holders, operands);
-            let elements = elements_of(alloc, ontology, listed, holders, least)?;
-            those_in(alloc, ontology, listed, expression, &elements)
+            let least = least_operand(ontology, listed, &kept.holders, operands);
+            let elements = elements_of(alloc, ontology, listed, kept, least)?;
+            those_in(alloc, ontology, listed, kept, expression, &elements)
         }
         Some(Expr::Some(property, filler)) => {
-            let fillers = elements_of(alloc, ontology, listed, holders, *filler)?;
-            restriction(alloc, &listed.pairs, holders, *property, &fillers)
+            let fillers = elements_of(alloc, ontology, listed, kept, *filler)?;
+            restriction(alloc, &listed.pairs, &kept.holders, *property, &fillers)
         }
         // The expression is one of the ontology.
         None => unreachable!(),

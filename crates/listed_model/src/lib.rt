@@ -6,6 +6,8 @@ mod ascending;
 mod class_axioms;
 mod extension;
 mod individual_axioms;
+mod keeping;
+mod kept;
 mod meeting;
 mod paths;
 mod property_axioms;

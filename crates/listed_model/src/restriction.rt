@@ -53,8 +53,8 @@ fn add_sources(sources: &mut Vec<u32>, rows: &[PairRow], places: &[u32]) -> Resu
     Ok(())
 }
 
-// The elements that the property joins to one of the fillers, by the fillers; none where more rows have fillers than the property
-// has, each counted once for each filler. The rows of the property stand together, so of the places of a filler's rows those that
+// The elements that the property joins to one of the fillers, by the fillers; none where more rows than the most have
+// fillers, each counted once for each filler. The rows of the property stand together, so of the places of a filler's rows those that
 // are of the property do, too.
 fn by_fillers(
     alloc: Global,
@@ -62,12 +62,12 @@ fn by_fillers(
     holders: &PackedLists,
     property: PropId,
     fillers: &[u32],
+    most: usize,
 ) -> Result<Option<Vec<u32>>, Memory>
     requires rows { ArePairRows rows.now }
     requires holders { (y : ℕ) → holds fillers.now y ≡ true → IsHolders rows.now y (list_at holders.now y) }
     ensures { IfOk result (λ found. IfSome found (λ sources. (x : ℕ) → (holds sources.items x ≡ true) ↔ Joined (map pair_row_of rows.now) property.0 fillers.now x)) }
 {
-    let most = rows_of(rows, property).len();
     let start = start_of(rows, property);
     let end = end_of(rows, property);
     let mut sources = Vec::new(alloc);
@@ -114,8 +114,9 @@ fn by_either(
     requires holders { (y : ℕ) → holds fillers.now y ≡ true → IsHolders rows.now y (list_at holders.now y) }
     ensures { IfOk result (λ sources. (x : ℕ) → (holds sources.items x ≡ true) ↔ Joined (map pair_row_of rows.now) property.0 fillers.now x) }
 {
-    if fillers.len() < rows_of(rows, property).len() {
-        if let Some(sources) = by_fillers(alloc, rows, holders, property, fillers)? {
+    let most = rows_of(rows, property).len();
+    if fillers.len() < most {
+        if let Some(sources) = by_fillers(alloc, rows, holders, property, fillers, most)? {
             return Ok(sources);
         }
     }
@@ -139,4 +140,77 @@ pub(crate) fn restriction(
     let mut sources = by_either(alloc, rows, holders, property, fillers)?;
     put_in_order(&mut sources);
     Ok(sources)
+}
+
+/// How many pairs the rows have.
+pub(crate) fn pair_count(rows: &[PairRow]) -> usize {
+    let mut count: usize = 0;
+    for row in rows {
+        count = count.saturating_add(row.targets.as_slice().len());
+    }
+    count
+}
+
+/// Takes the steps from those that are left, if there are so many.
+pub(crate) fn take_steps(left: &mut usize, steps: usize) -> bool {
+    if steps > *left {
+        return false;
+    }
+    *left -= steps;
+    true
+}
+
+// The elements that the property joins to one of the fillers, if the steps that are left list them. Going over rows takes at most as
+// many as they have pairs.
+fn few_by_either(
+    alloc: Global,
+    rows: &[PairRow],
+    holders: &PackedLists,
+    property: PropId,
+    fillers: &[u32],
+    left: &mut usize,
+) -> Result<Option<Vec<u32>>, Memory>
+    requires rows { ArePairRows rows.now }
+    requires fillers { IsStrictlyIncreasing fillers.now }
+    requires holders { (y : ℕ) → holds fillers.now y ≡ true → IsHolders rows.now y (list_at holders.now y) }
+    ensures { IfOk result (λ found. IfSome found (λ sources. (x : ℕ) → (holds sources.items x ≡ true) ↔ Joined (map pair_row_of rows.now) property.0 fillers.now x)) }
+{
+    let own = rows_of(rows, property);
+    let most = own.len().saturating_mul(4);
+    if fillers.len() < own.len() && take_steps(left, fillers.len()) {
+        if let Some(sources) = by_fillers(alloc, rows, holders, property, fillers, most)? {
+            return Ok(Some(sources));
+        }
+        *left = left.saturating_sub(most);
+    }
+    if !take_steps(left, own.len()) || !take_steps(left, pair_count(own)) {
+        return Ok(None);
+    }
+    let sources = by_rows(alloc, rows, property, fillers)?;
+    Ok(Some(sources))
+}
+
+/// The elements that the property joins to one of the fillers, ascending, if the steps that are left list them. Of these go what it
+/// takes, and one for each element.
+pub(crate) fn few_sources(
+    alloc: Global,
+    rows: &[PairRow],
+    holders: &PackedLists,
+    property: PropId,
+    fillers: &[u32],
+    left: &mut usize,
+) -> Result<Option<Vec<u32>>, Memory>
+    requires rows { ArePairRows rows.now }
+    requires fillers { IsStrictlyIncreasing fillers.now }
+    requires holders { (y : ℕ) → holds fillers.now y ≡ true → IsHolders rows.now y (list_at holders.now y) }
+    ensures { IfOk result (λ found. IfSome found (λ sources. IsStrictlyIncreasing sources.items
+        × ((x : ℕ) → (holds sources.items x ≡ true) ↔ Joined (map pair_row_of rows.now) property.0 fillers.now x))) }
+{
+    let Some(mut sources) = few_by_either(alloc, rows, holders, property, fillers, left)? else {
+        return Ok(None);
+    };
+    *left = left.saturating_sub(sources.len());
+    put_in_order(&mut sources);
+    *left = left.saturating_sub(sources.len());
+    Ok(Some(sources))
 }

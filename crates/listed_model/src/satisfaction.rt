@@ -7,21 +7,23 @@ ghost use Rattle.certificate.specs.View.{listed_of, pair_row_of};
 ghost use Rattle.interpretation_spec.specs.NamedInterpretation.{IsFirstUnsatisfied};
 ghost use Rattle.interpretation_spec.specs.Interpretation.{Interpretation, IsInterpretation, IsModel};
 ghost use Rattle.listed_model.specs.Interpretations.{SatisfiesListed, listed_interpretation};
+ghost use Rattle.listed_model.specs.Keeping.{AreKept};
 ghost use Rattle.listed_model.specs.Listing.{IsListing, element_of, targets_of};
 ghost use Rattle.listed_model.specs.Members.{holds};
-ghost use Rattle.listed_model.specs.Rows.{AreHolders, ArePairRows, HasListedPath};
+ghost use Rattle.listed_model.specs.Rows.{ArePairRows, HasListedPath};
 ghost use Rattle.listed_model.specs.PropertyTests.{AreShown};
 ghost use Rattle.std.specs.Prelude.{◌≡◌, ◌↔◌, ◌<◌, IfOk, IsNone, IfSome, IsTrue, List, MatchOption, OnOk, length, map, true, ℕ};
 
 use crate::class_axioms::{are_apart, are_same, has_domain, is_in, is_within};
 use crate::individual_axioms::{element_at, have_one_element, have_own_elements};
+use crate::keeping::kept_of;
+use crate::kept::Kept;
 use crate::paths::is_chain_within;
 use crate::property_axioms::{are_same_properties, is_reflexive, leads_to};
-use crate::restriction::holders_of;
 use crate::shown::{Shown, is_closed, lies_within};
 use axioms::{Axiom, IndId, Memory, Ontology, PropId};
 use certificate::{Listed, PairRow};
-use number_sets::{EpochSet, PackedLists};
+use number_sets::EpochSet;
 use std::alloc::Global;
 
 // What tests work with: two sets of elements, and what was shown of properties.
@@ -89,12 +91,12 @@ fn satisfies(
     alloc: Global,
     ontology: &Ontology,
     listed: &Listed,
-    holders: &PackedLists,
+    kept: &Kept,
     room: &mut Room,
     axiom: &Axiom,
 ) -> Result<bool, Memory>
     requires listed { IsListedOf ontology.now (listed_of listed.now) }
-    requires holders { AreHolders listed.now.pairs.items listed.now.domain holders.now }
+    requires kept { AreKept ontology.now listed.now kept.now }
     requires room { length room.old.seen ≡ listed.now.domain }
     requires shown { AreShown (map pair_row_of listed.now.pairs.items) room.old.shown }
     requires of { IsAxiomOf ontology.now (axiom_of «axiom».now) }
@@ -104,10 +106,10 @@ fn satisfies(
 {
     ontology.well_formed();
     match axiom {
-        Axiom::SubClass(sub, sup) => is_within(alloc, ontology, listed, holders, *sub, *sup),
-        Axiom::EquivalentClasses(operands) => are_same(alloc, ontology, listed, holders, operands),
+        Axiom::SubClass(sub, sup) => is_within(alloc, ontology, listed, kept, *sub, *sup),
+        Axiom::EquivalentClasses(operands) => are_same(alloc, ontology, listed, kept, operands),
         Axiom::DisjointClasses(operands) => {
-            are_apart(alloc, ontology, listed, holders, &mut room.seen, operands)
+            are_apart(alloc, ontology, listed, kept, &mut room.seen, operands)
         }
         Axiom::SubProperty(chain, above) => {
             is_sub_property(alloc, &listed.pairs, room, chain, *above)
@@ -115,7 +117,9 @@ fn satisfies(
         Axiom::EquivalentProperties(properties) => {
             Ok(are_same_properties(&listed.pairs, properties))
         }
-        Axiom::Domain(property, class) => { has_domain(alloc, ontology, listed, *property, *class) }
+        Axiom::Domain(property, class) => {
+            has_domain(alloc, ontology, listed, kept, *property, *class)
+        }
         Axiom::Transitive(property) => {
             is_closed(
                 alloc,
@@ -129,7 +133,7 @@ fn satisfies(
         Axiom::Reflexive(property) => Ok(is_reflexive(&listed.pairs, listed.domain, *property)),
         Axiom::ClassAssertion(class, individual) => {
             let element = element_at(&listed.individuals, *individual);
-            is_in(alloc, ontology, listed, *class, element)
+            is_in(alloc, ontology, listed, kept, *class, element)
         }
         Axiom::PropertyAssertion(property, source, target) => {
             Ok(joins(listed, *property, *source, *target))
@@ -153,17 +157,17 @@ fn first_failing(
     alloc: Global,
     ontology: &Ontology,
     listed: &Listed,
-    holders: &PackedLists,
+    kept: &Kept,
 ) -> Result<Option<usize>, Memory>
     requires listed { IsListedOf ontology.now (listed_of listed.now) }
-    requires holders { AreHolders listed.now.pairs.items listed.now.domain holders.now }
+    requires kept { AreKept ontology.now listed.now kept.now }
     ensures model { IfOk result (λ found. IsNone found → IsModel (listed_interpretation ontology.now (listed_of listed.now)) (axiom_trees ontology.now)) }
     ensures first { IfOk result (λ found. IfSome found (IsFirstUnsatisfied ontology.now (listed_interpretation ontology.now (listed_of listed.now)))) }
 {
     ontology.well_formed();
     let mut room = Room::new(alloc, listed.domain as usize)?;
     for (index, axiom) in ontology.axioms().iter().enumerate() {
-        if !satisfies(alloc, ontology, listed, holders, &mut room, axiom)? {
+        if !satisfies(alloc, ontology, listed, kept, &mut room, axiom)? {
             return Ok(Some(index + 1));
         }
     }
@@ -182,6 +186,6 @@ pub fn first_unsatisfied(
         × MatchOption found (IsModel i (axiom_trees ontology.now)) (IsFirstUnsatisfied ontology.now i)) }
 {
     ontology.well_formed();
-    let holders = holders_of(alloc, &listed.pairs, listed.domain)?;
-    first_failing(alloc, ontology, listed, &holders)
+    let kept = kept_of(alloc, ontology, listed)?;
+    first_failing(alloc, ontology, listed, &kept)
 }

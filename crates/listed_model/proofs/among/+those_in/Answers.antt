@@ -14,8 +14,17 @@ use Rattle.listed_model.specs.Members.{holds}
 use Rattle.listed_model.specs.Rows.{ArePairRows}
 use Rattle.listed_model.proofs.Extensions.{class_extension, and_elements, some_elements, target_within}
 use Rattle.listed_model.proofs.Given.{class_rows_given, pair_rows_given}
+use Rattle.listed_model.proofs.Held.{kept_is, those_of}
 use Rattle.listed_model.proofs.Passed.{each_place}
 use Rattle.listed_model.proofs.among.+those_in.Goals as goal
+
+pub returns-in-Some : goal.returns-in-Some
+returns-in-Some t c =
+    let o = c.args.ontology.now in
+    let e = c.args.expression.0 in
+    let list = c.in-Some.list.now in
+    let from = kept_is o c.args.listed.now c.args.kept.now e list c.requires.kept c.in-Some.ensures.0 c.in-Some.ensures.1 in
+    IfOk-weaker c.common.result _ _ (λ v h. those_of o (listed_of c.args.listed.now) e list from c.args.elements.now v.items c.requires.elements.ascending h) c.common.ensures
 
 pub class_among-requires-clause-rows : goal.class_among-requires-clause-rows
 class_among-requires-clause-rows t c = class_rows_given c.args.ontology.now c.args.listed.now c.requires.listed
@@ -62,11 +71,14 @@ those_in-requires t c =
       (
         c.requires.listed,
         (
-          omega arith,
-          record {
-            ascending = subst IsStrictlyIncreasing (sym value) old.ascending;
-            within = λ x h. c.requires.elements.within x ((old.members x).0 (ap (λ xs. holds xs x) (sym value) ∙ h)).0;
-          },
+          c.requires.kept,
+          (
+            omega arith,
+            record {
+              ascending = subst IsStrictlyIncreasing (sym value) old.ascending;
+              within = λ x h. c.requires.elements.within x ((old.members x).0 (ap (λ xs. holds xs x) (sym value) ∙ h)).0;
+            },
+          ),
         ),
       ),
     )
@@ -137,11 +149,14 @@ those_in-requires-in-Some-Some t c =
       (
         c.requires.listed,
         (
-          omega arith,
-          record {
-            ascending = subst IsStrictlyIncreasing (sym value) c.in_ok-targets-in-Some-Some.ensures.ascending;
-            within = λ y h. (let (x, m, u) = (led y).0 (ap (λ xs. holds xs y) (sym value) ∙ h) in (target_within o w l c.requires.listed r x y u).1);
-          },
+          c.requires.kept,
+          (
+            omega arith,
+            record {
+              ascending = subst IsStrictlyIncreasing (sym value) c.in_ok-targets-in-Some-Some.ensures.ascending;
+              within = λ y h. (let (x, m, u) = (led y).0 (ap (λ xs. holds xs y) (sym value) ∙ h) in (target_within o w l c.requires.listed r x y u).1);
+            },
+          ),
         ),
       ),
     )

@@ -1,4 +1,4 @@
-use Rattle.std.proofs.Common.{◌≡◌, ◌↔◌, ℕ, ◌<◌, List, length, map, Some, All, true, sym, ap, ◌∙◌, subst, arith}
+use Rattle.std.proofs.Common.{◌≡◌, ◌↔◌, ℕ, ◌<◌, List, length, map, Contains, Some, All, true, sym, ap, ◌∙◌, subst, arith}
 use Rattle.std.specs.List.Sorted.{IsStrictlyIncreasing}
 use Rattle.std.proofs.lemmas.List.{length-map}
 use Rattle.std.proofs.lemmas.List.Elements.{All-contains}
@@ -13,10 +13,10 @@ use Rattle.certificate.specs.View.{listed_of, pair_row_of}
 use Rattle.certificate.specs.declared.listed.PairRow.{PairRow}
 use Rattle.interpretation_spec.proofs.Steps.{IfOk-both}
 use Rattle.number_sets.specs.Pieces.{list_at}
-use Rattle.listed_model.specs.Extensions.{IsElement, IsExtension}
+use Rattle.listed_model.specs.Extensions.{IsExtension}
 use Rattle.listed_model.specs.Members.{holds}
 use Rattle.listed_model.specs.Rows.{ArePairRows, IsHolders, Joined}
-use Rattle.listed_model.proofs.Extensions.{class_extension, and_elements, some_extension}
+use Rattle.listed_model.proofs.Extensions.{and_extension, class_extension, some_extension}
 use Rattle.listed_model.proofs.Given.{class_rows_given, pair_rows_given}
 use Rattle.listed_model.proofs.extension.+elements_of.Goals as goal
 
@@ -53,29 +53,20 @@ elements_of-requires t c =
     let all : All (λ d. d < e) (expr_numbers items) = subst (λ (ds : List ExprId). All (λ d. d < e) (expr_numbers ds)) (sym c.deref.ensures.value) within in
     let before = All-contains (λ d. d < e) (expr_numbers items) least.0 all (Contains-map (λ (e : ExprId). e.0) items least c.least_operand-least.ensures) in
     let there = c.requires.there in
-    (omega (arith, before, c.decreases), (c.requires.listed, (c.requires.holders, omega arith)))
+    (omega (arith, before, c.decreases), (c.requires.listed, (c.requires.kept, omega arith)))
 
 pub returns-in_ok-elements-in-Some-And : goal.returns-in_ok-elements-in-Some-And
 returns-in_ok-elements-in-Some-And t c =
     let g = sym c.in-Some-And.ensures.node ∙ ap (λ e. Some (node_of e)) c.in-Some-And.field-0-is in
     let o = c.args.ontology.now in
     let l = listed_of c.args.listed.now in
-    let items = c.deref.result.now in
+    let items = c.in-Some-And.operands.items in
     let least = c.least_operand-least.result in
-    let among = Contains-map (λ (e : ExprId). e.0) items least c.least_operand-least.ensures in
-    let from : IsExtension o l least.0 c.deref-in-Some-And.result.now = subst (IsExtension o l least.0) (sym c.deref-in-Some-And.ensures.value) c.in_ok-elements-in-Some-And.ensures in
+    let elements = c.deref-in-Some-And.result.now in
+    let among = Contains-map (λ (e : ExprId). e.0) items least (subst (λ (es : List ExprId). Contains es least) c.deref.ensures.value c.least_operand-least.ensures) in
+    let from : IsExtension o l least.0 elements = subst (IsExtension o l least.0) (sym c.deref-in-Some-And.ensures.value) c.in_ok-elements-in-Some-And.ensures in
     IfOk-weaker c.those_in.result _ _
-    (λ v h. record {
-      ascending = h.ascending;
-      members = λ x.
-          let both = and_elements o c.in-Some-And.ensures.valid l c.requires.listed c.args.expression.0 (expr_numbers c.in-Some-And.operands.items) g x in
-          let P : ℕ → Type 0 = λ (d : ℕ). IsElement o l d x in (
-            λ m. ((h.members x).0 m).1,
-            λ e.
-                let all : All P (expr_numbers items) = subst (λ (ds : List ExprId). All P (expr_numbers ds)) (sym c.deref.ensures.value) (both.0 e) in
-                (h.members x).1 ((from.members x).1 (All-contains P (expr_numbers items) least.0 all among), e),
-          );
-    })
+    (λ v h. and_extension o c.in-Some-And.ensures.valid l c.requires.listed c.args.expression.0 (expr_numbers items) g least.0 among elements v.items from h)
     c.those_in.ensures
 
 pub elements_of-requires-in-Some-Some : goal.elements_of-requires-in-Some-Some
@@ -83,7 +74,7 @@ elements_of-requires-in-Some-Some t c =
     let g = sym c.in-Some-Some.ensures.node ∙ ap (λ e. Some (node_of e)) c.in-Some-Some.field-0-is in
     let before = (c.in-Some-Some.ensures.valid.nodes c.args.expression.0 (Exists c.in-Some-Some.property.0 c.in-Some-Some.filler.0) g).1 in
     let there = c.requires.there in
-    (omega (arith, before, c.decreases), (c.requires.listed, (c.requires.holders, omega arith)))
+    (omega (arith, before, c.decreases), (c.requires.listed, (c.requires.kept, omega arith)))
 
 pub restriction-requires-clause-rows : goal.restriction-requires-clause-rows
 restriction-requires-clause-rows t c = subst ArePairRows (sym c.deref-in-Some-Some.ensures.value) (pair_rows_given c.args.ontology.now c.args.listed.now c.requires.listed)
@@ -94,7 +85,7 @@ restriction-requires-clause-fillers t c = subst IsStrictlyIncreasing (sym c.dere
 pub restriction-requires-clause-holders : goal.restriction-requires-clause-holders
 restriction-requires-clause-holders t c = λ y h.
     let below = ((c.in_ok-fillers-in-Some-Some.ensures.members y).0 (ap (λ xs. holds xs y) (sym c.deref-in-Some-Some-2.ensures.value) ∙ h)).0 in
-    subst (λ (rows : List PairRow). IsHolders rows y (list_at c.args.holders.now y)) (sym c.deref-in-Some-Some.ensures.value) (c.requires.holders y below)
+    subst (λ (rows : List PairRow). IsHolders rows y (list_at c.args.kept.now.holders y)) (sym c.deref-in-Some-Some.ensures.value) (c.requires.kept.holders y below)
 
 pub returns-in_ok-fillers-in-Some-Some : goal.returns-in_ok-fillers-in-Some-Some
 returns-in_ok-fillers-in-Some-Some t c =

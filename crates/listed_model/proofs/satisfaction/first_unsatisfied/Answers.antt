@@ -1,9 +1,7 @@
-use Rattle.std.proofs.Common.{subst, List, IsNone, IfSome, MatchOption, Option, Some, None, ℕ, refl}
+use Rattle.std.proofs.Common.{IsNone, IfSome, MatchOption, Option, Some, None, ℕ, refl}
 use Rattle.std.proofs.lemmas.Result.{IfOk-weaker}
 use Rattle.axioms.specs.Ontology.{axiom_trees}
 use Rattle.certificate.specs.View.{listed_of}
-use Rattle.certificate.specs.declared.listed.PairRow.{PairRow}
-use Rattle.listed_model.specs.Rows.{AreHolders}
 use Rattle.interpretation_spec.specs.NamedInterpretation.{IsFirstUnsatisfied}
 use Rattle.interpretation_spec.specs.Interpretation.{IsModel}
 use Rattle.interpretation_spec.proofs.Steps.{IfOk-both}
@@ -14,9 +12,6 @@ use Rattle.listed_model.proofs.satisfaction.first_unsatisfied.Goals as goal
 one_or_none : (found : Option ℕ) (M : Type 0) (P : ℕ → Type 0) → (IsNone found → M) → IfSome found P → MatchOption found M P
 one_or_none None M P none some = none refl
 one_or_none (Some n) M P none some = some
-
-pub first_failing-requires-clause-holders : goal.first_failing-requires-clause-holders
-first_failing-requires-clause-holders c = subst (λ (rows : List PairRow). AreHolders rows c.args.listed.now.domain c.in_ok-holders.holders) c.deref.ensures.value c.in_ok-holders.ensures
 
 pub returns : goal.returns
 returns c =

@@ -1,0 +1,126 @@
+//! Of which expressions the elements are kept: of each class, and of those whose lists few steps make from lists that are kept. How many
+//! these are goes by the listed interpretation, so of what takes more no list is made here.
+ghost use Rattle.certificate.specs.Writability.{IsListedOf};
+ghost use Rattle.certificate.specs.View.{listed_of};
+ghost use Rattle.listed_model.specs.Extensions.{IsExtension};
+ghost use Rattle.listed_model.specs.Keeping.{AreKept};
+ghost use Rattle.std.specs.Prelude.{◌<◌, ◌≡◌, Contains, IfOk, IfSome, length};
+
+use crate::among::those_in;
+use crate::extension::class_elements;
+use crate::kept::Kept;
+use crate::restriction::{few_sources, holders_of, pair_count, take_steps};
+use axioms::{Expr, ExprId, Memory, Ontology};
+use certificate::{ClassRow, Listed};
+use number_sets::PackedLists;
+use std::alloc::Global;
+
+fn member_count(rows: &[ClassRow]) -> usize {
+    let mut count: usize = 0;
+    for row in rows {
+        count = count.saturating_add(row.elements.len());
+    }
+    count
+}
+
+// How many steps all lists that are made may take together: four for each element, each pair and each member of a class.
+fn steps_for(listed: &Listed) -> usize {
+    let pairs = pair_count(&listed.pairs);
+    let members = member_count(&listed.classes);
+    let size = pairs
+        .saturating_add(members)
+        .saturating_add(listed.domain as usize);
+    size.saturating_mul(4)
+}
+
+// The operand with the fewest elements, if those of each are kept.
+fn fewest(kept: &Kept, operands: &[ExprId]) -> Option<ExprId>
+    ensures { IfSome result (λ least. Contains operands.now least) }
+{
+    let mut least = *operands.first()?;
+    let mut bound = usize::MAX;
+    for operand in operands {
+        let elements = kept.at(*operand)?;
+        if elements.len() < bound {
+            least = *operand;
+            bound = elements.len();
+        }
+    }
+    Some(least)
+}
+
+// The elements of the expression, if those of its parts are kept and the steps that are left make its list. Of these go the steps that
+// it takes, at least two for each element that is kept.
+fn few_elements(
+    alloc: Global,
+    ontology: &Ontology,
+    listed: &Listed,
+    kept: &Kept,
+    expression: ExprId,
+    left: &mut usize,
+) -> Result<Option<Vec<u32>>, Memory>
+    requires listed { IsListedOf ontology.now (listed_of listed.now) }
+    requires kept { AreKept ontology.now listed.now kept.now }
+    requires there { expression.0 < length ontology.now.nodes }
+    ensures { IfOk result (λ made. IfSome made (λ elements. IsExtension ontology.now (listed_of listed.now) expression.0 elements.items)) }
+{
+    match ontology.expr(expression) {
+        Some(Expr::Class(_)) => {
+            let elements = class_elements(alloc, listed, expression)?;
+            Ok(Some(elements))
+        }
+        Some(Expr::And(operands)) => {
+            let Some(least) = fewest(kept, operands) else {
+                return Ok(None);
+            };
+            let Some(elements) = kept.at(least) else {
+                return Ok(None);
+            };
+            if !take_steps(left, elements.len().saturating_mul(operands.len())) {
+                return Ok(None);
+            }
+            let those = those_in(alloc, ontology, listed, kept, expression, elements)?;
+            Ok(Some(those))
+        }
+        Some(Expr::Some(property, filler)) => {
+            let Some(fillers) = kept.at(*filler) else {
+                return Ok(None);
+            };
+            few_sources(
+                alloc,
+                &listed.pairs,
+                &kept.holders,
+                *property,
+                fillers,
+                left,
+            )
+        }
+        // The expression is one of the ontology.
+        None => unreachable!(),
+    }
+}
+
+/// What is kept of the listed interpretation, in memory that goes by it. It fails where memory is refused, or where there are 2^32
+/// rows of pairs.
+pub(crate) fn kept_of(alloc: Global, ontology: &Ontology, listed: &Listed) -> Result<Kept, Memory>
+    requires { IsListedOf ontology.now (listed_of listed.now) }
+    ensures { IfOk result (λ kept. AreKept ontology.now listed.now kept) }
+{
+    ontology.bounded();
+    let holders = holders_of(alloc, &listed.pairs, listed.domain)?;
+    let mut kept = Kept {
+        holders,
+        lists: PackedLists::new(alloc),
+        there: Vec::new(alloc),
+    };
+    let mut left = steps_for(listed);
+    for number in 0..ontology.expression_count() {
+        let expression = ExprId(number as u32);
+        let made = few_elements(alloc, ontology, listed, &kept, expression, &mut left)?;
+        match made {
+            Some(elements) => kept.put(&elements, true)?,
+            None => kept.put(&[], false)?,
+        }
+    }
+    Ok(kept)
+}
