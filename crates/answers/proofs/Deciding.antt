@@ -11,7 +11,7 @@ use Rattle.facts.specs.declared.contexts.Fact.{Fact}
 use Rattle.facts.specs.declared.contexts.Fact.TheVariants.{In, Edge}
 use Rattle.normal_forms.specs.declared.forms.Class2.TheVariants as classes
 use Rattle.normal_forms.specs.declared.forms.Form.{Form}
-use Rattle.normal_forms.specs.declared.forms.Form.TheVariants.{N1, N2, N3, N4, N5, N6, N7, N8, N9, N10, N11, N12}
+use Rattle.normal_forms.specs.declared.forms.Form.TheVariants.{N1, N2, N3, N4, N5, N6, N7, N8, N9, N10, N12}
 
 abbrev pub Decided : Type 0 → Type 0
 Decided P = P ⊎ (P → ⊥)
@@ -89,7 +89,6 @@ via (N7 _) p q = inr (λ w. w)
 via (N8 _ _) p q = inr (λ w. w)
 via (N9 _ _ _) p q = inr (λ w. w)
 via (N10 _ _) p q = inr (λ w. w)
-via (N11 _ _) p q = inr (λ w. w)
 via (N12 _ _ _) p q = inr (λ w. w)
 
 pub reach : (fs : List Form) (p q : ℕ) → Decided (Reach fs p q)
@@ -114,7 +113,6 @@ via_more (N7 _) P Q R h w = w
 via_more (N8 _ _) P Q R h w = w
 via_more (N9 _ _ _) P Q R h w = w
 via_more (N10 _ _) P Q R h w = w
-via_more (N11 _ _) P Q R h w = w
 via_more (N12 _ _ _) P Q R h w = w
 
 -- where one of the forms puts s below t, and s is reached, t is reached too

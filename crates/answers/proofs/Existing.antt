@@ -16,7 +16,7 @@ use Rattle.normal_forms.specs.declared.forms.Form as code_form
 use Rattle.normal_forms.specs.declared.forms.Form.TheVariants as forms
 use Rattle.normal_forms.specs.Forms.{Whole, Property2, Property, Steps, Form, N5, IsForm}
 use Rattle.closure.specs.Closure.{Context, Expression, Individual, Fact, In, Edge, IsFact, IsAtOrBelow, same, step}
-use Rattle.closure.specs.Denotations.{Prefixes, SaysProperty, property, steps, SaysContext, expression, individual, SaysFact, edge, SaysForm, n5, IsProblemOf}
+use Rattle.closure.specs.Denotations.{Prefixes, SaysProperty, property, steps, SaysContext, expression, individual, SaysFact, edge, SaysForm, n5, IsSaid, by_form, IsProblemOf}
 use Rattle.closure.proofs.Names.{context_one, expr_id, ind_id}
 use Rattle.closure.proofs.Names as names
 use Rattle.exactness.specs.ListedInterpretation.{HasEdge, IsConsistent, IsListedInterpretation, IsSatisfiable, Leads, AreSatisfiableContexts}
@@ -70,10 +70,14 @@ module _ (o : Ontology) (asked : List ℕ) (w : IsOntology o) (b : Prefixes) (k 
   on_by : (p s t : ℕ) (f : code_form.Form) → SaysForm b f (N5 s t) → (n : ℕ) → slice_get k.forms n ≡ Some f → Reach k.forms p s → Reach k.forms p t
   on_by p s t _ (n5 {r = s'} {s = t'} h l) n at r = subst (λ m. Reach k.forms p m) l (reach_on k.forms s' t' n p at (subst (λ m. Reach k.forms p m) (sym h) r))
 
+  -- one of properties is said by a form: lists are of classes and of individuals
+  by_its_form : (s t : ℕ) → IsSaid b k (N5 s t) → (f : code_form.Form) × Contains k.forms f × SaysForm b f (N5 s t)
+  by_its_form s t (by_form f there says) = (f, there, says)
+
   led : (x y : Property2) → IsAtOrBelow o asked x y → (p q : ℕ) → x ≡ Property p → y ≡ Property q → Reach k.forms p q
   led x _ same p q e f = subst (λ n. Reach k.forms p n) (ap number_in (sym e ∙ f)) (reach_same k.forms p)
   led x _ (step s t h form) p q e f =
-      let (g, there, says_g) = problem.all_forms (N5 s t) form in
+      let (g, there, says_g) = by_its_form s t (problem.all_forms (N5 s t) form) in
       let (n, at) = slice_get-from_Contains k.forms g there in
       subst (λ m. Reach k.forms p m) (ap number_in f) (on_by p s t g says_g n at (led x (Property s) h p s e refl))
 

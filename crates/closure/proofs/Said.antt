@@ -5,6 +5,7 @@ use Rattle.axioms.specs.Ontology.{Ontology, thing, nothing}
 use Rattle.axioms.specs.declared.ids.ExprId.{ExprId}
 use Rattle.axioms.specs.declared.ids.PropId.{PropId}
 use Rattle.axioms.specs.declared.ids.IndId.{IndId}
+use Rattle.normal_forms.specs.declared.forms.Class2 as code_class
 use Rattle.normal_forms.specs.declared.forms.Class2.TheVariants as classes
 use Rattle.normal_forms.specs.declared.forms.PropId2 as code_property
 use Rattle.normal_forms.specs.declared.forms.PropId2.TheVariants as properties
@@ -16,10 +17,11 @@ use Rattle.facts.specs.declared.contexts.Context as code_context
 use Rattle.facts.specs.declared.contexts.Context.TheVariants as contexts
 use Rattle.facts.specs.declared.contexts.Fact as code_fact
 use Rattle.facts.specs.declared.contexts.Fact.TheVariants as facts
-use Rattle.facts.specs.Closure.{Problem, FromNone, FromOne, FromTwo, Concludes, CarriesBack, IsLoop, Links, HandsOn}
+use Rattle.normal_forms.specs.Apart.{AreListedAt}
+use Rattle.facts.specs.Closure.{Problem, FromNone, FromOne, FromTwo, Concludes, CarriesBack, IsLoop, Links, HandsOn, AreDisjointAt}
 use Rattle.facts.specs.Closure as numbered
 use Rattle.closure.specs.Closure.{Context, Expression, Individual, Fact, In, Edge, IsContextBy, IsAtOrBelow, AreSame, Gives, IsFact, AreFacts, given, none, more}
-use Rattle.closure.specs.Denotations.{Prefixes, SaysClass, whole, SaysProperty, property, SaysContext, expression, individual, SaysFact, in_context, edge, SaysForm, n1, n2, n3, n4, n5, n6, n7, n8, n9, n10, n11, n12, IsProblemOf}
+use Rattle.closure.specs.Denotations.{Prefixes, SaysClass, whole, SaysProperty, property, SaysContext, expression, individual, SaysFact, in_context, edge, SaysForm, n1, n2, n3, n4, n5, n6, n7, n8, n9, n10, n12, IsSaid, by_form, by_classes, by_individuals, IsProblemOf}
 use Rattle.facts.proofs.Sameness.{class_handed_on, source_handed_on, target_handed_on}
 use Rattle.closure.proofs.Groups.{and_then}
 use Rattle.closure.proofs.Names.{class_one, property_one, context_one, ind_id, same_property, context_same, class_same, property_same}
@@ -32,15 +34,30 @@ data SayFacts (b : Prefixes) : List code_fact.Fact → List Fact → Type 0 wher
 only : {k : Problem} {f : code_fact.Fact} → numbered.AreFacts k (f ∷ []) → numbered.IsFact k f
 only (numbered.more fact numbered.none) = fact
 
+-- no list says the form
+abbrev IsUnlisted : Form → Type 0
+IsUnlisted (N2 _ _ _) = ⊥
+IsUnlisted (N11 _ _) = ⊥
+IsUnlisted _ = Unit {0}
+
+by_a_form : (b : Prefixes) (k : Problem) (g : Form) → IsUnlisted g → IsSaid b k g → (f : code_form.Form) × Contains k.forms f × SaysForm b f g
+by_a_form b k g unlisted (by_form f there says) = (f, there, says)
+by_a_form b k _ unlisted (by_classes l c d at) = absurd unlisted
+by_a_form b k _ unlisted (by_individuals l i j at) = absurd unlisted
+
 module _ (o : Ontology) (asked : List ℕ) (b : Prefixes) (k : Problem) (h : IsProblemOf o asked b k) where
   -- the form of that place says a form
   said_form : (n : ℕ) (f : code_form.Form) → slice_get k.forms n ≡ Some f → (g : Form) × SaysForm b f g × IsForm o asked g
   said_form n f at = h.each_form f (Contains-from_slice_get k.forms n f at)
 
-  -- a form is said at some place
-  form_at : (g : Form) → IsForm o asked g → (f : code_form.Form) × (n : ℕ) × (slice_get k.forms n ≡ Some f) × SaysForm b f g
-  form_at g form =
-      let (f, there, says) = h.all_forms g form in
+  -- a form that no list says is there
+  said_by : (g : Form) → IsUnlisted g → IsForm o asked g → (f : code_form.Form) × Contains k.forms f × SaysForm b f g
+  said_by g unlisted form = by_a_form b k g unlisted (h.all_forms g form)
+
+  -- .. at some place
+  form_at : (g : Form) → IsUnlisted g → IsForm o asked g → (f : code_form.Form) × (n : ℕ) × (slice_get k.forms n ≡ Some f) × SaysForm b f g
+  form_at g unlisted form =
+      let (f, there, says) = said_by g unlisted form in
       let (n, at) = slice_get-from_Contains k.forms f there in
       (f, n, at, says)
 
@@ -67,7 +84,7 @@ module _ (o : Ontology) (asked : List ℕ) (b : Prefixes) (k : Problem) (h : IsP
   below_sayer {p = p} IsAtOrBelow.same says = (p, says, code_below.same)
   below_sayer (IsAtOrBelow.step s t below form) says =
       let (q, says_q, below_q) = below_sayer below says in
-      let (f, there, says_f) = h.all_forms (N5 s t) form in
+      let (f, there, says_f) = said_by (N5 s t) tt form in
       step_sayer q says_q below_q f there says_f
 
   -- a property over numbers is at or below another exactly where what the two say is so
@@ -108,10 +125,10 @@ module _ (o : Ontology) (asked : List ℕ) (b : Prefixes) (k : Problem) (h : IsP
   same_numbers : {a c : ℕ} → AreSame o asked a c → numbered.AreSame k.forms (ind_id a) (ind_id c)
   same_numbers AreSame.itself = numbered.itself
   same_numbers (AreSame.forth {b = c} d same form) =
-      let (f, there, says) = h.all_forms (N10 d c) form in
+      let (f, there, says) = said_by (N10 d c) tt form in
       numbered.step (ind_id d) f (same_numbers same) there (link_sayer d c f says).0
   same_numbers (AreSame.back {b = c} d same form) =
-      let (f, there, says) = h.all_forms (N10 c d) form in
+      let (f, there, says) = said_by (N10 c d) tt form in
       numbered.step (ind_id d) f (same_numbers same) there (link_sayer c d f says).1
 
   pub same_sayer : {i j : IndId} → AreSame o asked i.0 j.0 → numbered.AreSame k.forms i j
@@ -234,10 +251,25 @@ module _ (o : Ontology) (asked : List ℕ) (b : Prefixes) (k : Problem) (h : IsP
       let same = link_said i j form link g says form' in
       (Edge x' r' (Individual j.0), edge says_x says_r (individual refl), Gives.same_target a (subst (λ n. AreSame o asked n j.0) at_i same))
 
-  different_said : (i j : IndId) → numbered.AreSame k.forms i j → (g : Form) → SaysForm b (forms.N11 i j) g → IsForm o asked g → Said (facts.In numbered.nothing (contexts.Individual i)) []
+  different_said : (l : ℕ) (i j : IndId) → AreListedAt k.apart.individuals l i j → numbered.AreSame k.forms i j → Said (facts.In numbered.nothing (contexts.Individual i)) []
   unfolding Said
-  different_said i j same g (n11 {i' = i'} {j' = j'} at_i at_j) form =
-      (In (Whole nothing) (Individual i'), in_context (whole refl) (individual at_i), Gives.different j' form (subst (λ n. AreSame o asked n j') at_i (subst (λ n. AreSame o asked i.0 n) at_j (same_said same))))
+  different_said l i j at same =
+      (In (Whole nothing) (Individual i.0), in_context (whole refl) (individual refl), Gives.different j.0 (h.each_different l i j at) (same_said same))
+
+  -- two of a list of disjoint classes in one context
+  two_apart : (l : ℕ) (c d : ExprId) (x : code_context.Context) → AreListedAt k.apart.classes l c d → (f e : Fact) → SaysFact b (facts.In (classes.Expr c) x) f → SaysFact b (facts.In (classes.Expr d) x) e
+      → Said (facts.In numbered.nothing x) (f ∷ e ∷ [])
+  unfolding Said
+  two_apart l c d x at f e (in_context {a' = c'} {x' = x'} says_c says_x) (in_context {a' = d'} {x' = y'} says_d says_y) =
+      let first_is : Whole c.0 ≡ c' = class_one {b = b} (whole refl) says_c in
+      let second_is : Whole d.0 ≡ d' = class_one {b = b} (whole refl) says_d in
+      let context_is : x' ≡ y' = context_one says_x says_y in
+      let form : IsForm o asked (N2 c' d' (Whole nothing)) = subst (λ z. IsForm o asked (N2 c' z (Whole nothing))) second_is (subst (λ z. IsForm o asked (N2 z (Whole d.0) (Whole nothing))) first_is (h.each_disjoint l c d at)) in
+      (In (Whole nothing) x', in_context (whole refl) says_x, subst (λ z. Gives o asked (In c' x' ∷ In d' z ∷ []) (In (Whole nothing) x')) context_is (Gives.both c' d' form))
+
+  apart_said : {gs : List Fact} (l : ℕ) (u v : code_class.Class2) (x : code_context.Context) → AreDisjointAt k l u v → SayFacts b (facts.In u x ∷ facts.In v x ∷ []) gs → Said (facts.In numbered.nothing x) gs
+  apart_said l u v x (c, d, is_c, is_d, at) (one_more {g = f} says_f (one_more {g = e} says_e no_facts)) =
+      two_apart l c d x at f e (subst (λ z. SaysFact b (facts.In z x) f) is_c says_f) (subst (λ z. SaysFact b (facts.In z x) e) is_d says_e)
 
   given_said : {condition : ℕ} {place : Option ℕ} {fs : List code_fact.Fact} {gs : List Fact} (f : code_fact.Fact) → numbered.Gives k condition place fs f → SayFacts b fs gs → Said f gs
   unfolding Said SaidContext
@@ -258,9 +290,8 @@ module _ (o : Ontology) (asked : List ℕ) (b : Prefixes) (k : Problem) (h : IsP
   given_said f (numbered.handed_on {g = old} n form at hands) (one_more {g = g} says no_facts) =
       let (form', says_form, found) = said_form n form at in
       handed_said form old f hands form' says_form found g says
-  given_said f (numbered.different n i j at same) no_facts =
-      let (g, says_g, found) = said_form n (forms.N11 i j) at in
-      different_said i j same g says_g found
+  given_said f (numbered.different l i j at same) no_facts = different_said l i j at same
+  given_said f (numbered.apart l u v x are) says = apart_said l u v x are says
 
   mutual
     unfolding Said
@@ -362,10 +393,26 @@ module _ (o : Ontology) (asked : List ℕ) (b : Prefixes) (k : Problem) (h : IsP
     edge says_x says_r (individual refl),
   )
 
-  different_by : (a c : ℕ) → AreSame o asked a c → (n : ℕ) (form : code_form.Form) → slice_get k.forms n ≡ Some form → SaysForm b form (N11 a c) → Sayer [] (In (Whole nothing) (Individual a))
-  different_by a c same n form at (n11 {i = i} {j = j} at_i at_j) =
-      let same' : numbered.AreSame k.forms i j = same_sayer (subst (λ m. AreSame o asked m j.0) (sym at_i) (subst (λ m. AreSame o asked a m) (sym at_j) same)) in
-      by_condition (facts.In numbered.nothing (contexts.Individual i)) (numbered.different n i j at same') (In (Whole nothing) (Individual a)) (in_context (whole refl) (individual at_i))
+  -- what a list of disjoint classes gives by two of them
+  listed_by : (l : ℕ) (c d : ExprId) → AreListedAt k.apart.classes l c d → (x : Context) (f e : code_fact.Fact) → SaysFact b f (In (Whole c.0) x) → SaysFact b e (In (Whole d.0) x) → Sayer (f ∷ e ∷ []) (In (Whole nothing) x)
+  listed_by l c d at x f e (in_context {a = u} {x = x'} says_c says_x) (in_context {a = v} {x = y'} says_d says_y) =
+      let gives : numbered.Gives k 14 (Some l) (facts.In u x' ∷ facts.In v x' ∷ []) (facts.In numbered.nothing x') =
+      numbered.apart l u v x' (c, d, class_same h says_c (whole refl), class_same h says_d (whole refl), at) in
+      by_condition (facts.In numbered.nothing x')
+      (subst (λ z. numbered.Gives k 14 (Some l) (facts.In u x' ∷ facts.In v z ∷ []) (facts.In numbered.nothing x')) (context_same says_x says_y) gives)
+      (In (Whole nothing) x) (in_context (whole refl) says_x)
+
+  -- .. or a form does
+  both_said : (a c d : Class2) (x : Context) → IsSaid b k (N2 a c d) → (f e : code_fact.Fact) → SaysFact b f (In a x) → SaysFact b e (In c x) → Sayer (f ∷ e ∷ []) (In d x)
+  both_said a c d x (by_form form there says) f e says_f says_e =
+      let (n, at) = slice_get-from_Contains k.forms form there in
+      both_by a c d x n form at says f e says_f says_e
+  both_said _ _ _ x (by_classes l c d at) f e says_f says_e = listed_by l c d at x f e says_f says_e
+
+  different_by : (a c : ℕ) → AreSame o asked a c → IsSaid b k (N11 a c) → Sayer [] (In (Whole nothing) (Individual a))
+  different_by a c same (by_form form there says) = elim says [ ]
+  different_by _ _ same (by_individuals l i j at) =
+      by_condition (facts.In numbered.nothing (contexts.Individual i)) (numbered.different l i j at (same_sayer same)) (In (Whole nothing) (Individual i.0)) (in_context (whole refl) (individual refl))
 
   denied_by : (a r c : ℕ) (q : Property2) → IsAtOrBelow o asked q (Property r) → (n : ℕ) (form : code_form.Form) → slice_get k.forms n ≡ Some form → SaysForm b form (N12 a r c)
       → (f : code_fact.Fact) → SaysFact b f (Edge (Individual a) q (Individual c)) → Sayer (f ∷ []) (In (Whole nothing) (Individual a))
@@ -380,39 +427,35 @@ module _ (o : Ontology) (asked : List ℕ) (b : Prefixes) (k : Problem) (h : IsP
       let (x, says_x, by') = context_from (Expression c) by says in
       itself_sayer _ c x says_x by'
   given_by g (Gives.asserted {i = i} {a = a} form) no_facts =
-      let (f, n, at, says_f) = form_at (N8 i a) form in
+      let (f, n, at, says_f) = form_at (N8 i a) tt form in
       asserted_by i a n f at says_f
   given_by g (Gives.asserted_edge {i = i} {r = r} {j = j} form) no_facts =
-      let (f, n, at, says_f) = form_at (N9 i r j) form in
+      let (f, n, at, says_f) = form_at (N9 i r j) tt form in
       edge_asserted_by i r j n f at says_f
   given_by g (Gives.subsumed {x = x} {b = c} a form) (one_more {f = e} says_e no_facts) =
-      let (f, n, at, says_f) = form_at (N1 a c) form in
+      let (f, n, at, says_f) = form_at (N1 a c) tt form in
       subsumed_by a c x n f at says_f e says_e
-  given_by g (Gives.both {x = x} {c = d} a c form) (one_more {f = e} says_e (one_more {f = l} says_l no_facts)) =
-      let (f, n, at, says_f) = form_at (N2 a c d) form in
-      both_by a c d x n f at says_f e l says_e says_l
+  given_by g (Gives.both {x = x} {c = d} a c form) (one_more {f = e} says_e (one_more {f = l} says_l no_facts)) = both_said a c d x (h.all_forms (N2 a c d) form) e l says_e says_l
   given_by g (Gives.successor {x = x} {r = r} {b = c} a form) (one_more {f = e} says_e no_facts) =
-      let (f, n, at, says_f) = form_at (N3 a r c) form in
+      let (f, n, at, says_f) = form_at (N3 a r c) tt form in
       successor_by a r c x n f at says_f e says_e
   given_by g (Gives.predecessor {x = x} {b = c} r a q y form below) (one_more {f = e} says_e (one_more {f = l} says_l no_facts)) =
-      let (f, n, at, says_f) = form_at (N4 r a c) form in
+      let (f, n, at, says_f) = form_at (N4 r a c) tt form in
       predecessor_by r a c q x y below n f at says_f e l says_e says_l
   given_by g (Gives.unsatisfiable {x = x} r y) (one_more {f = e} says_e (one_more {f = l} says_l no_facts)) = carried_by r x y e l says_e says_l
   given_by g (Gives.chained {x = x} {z = z} {t = t} r s p q y form below below') (one_more {f = e} says_e (one_more {f = l} says_l no_facts)) =
-      let (f, n, at, says_f) = form_at (N6 r s t) form in
+      let (f, n, at, says_f) = form_at (N6 r s t) tt form in
       chained_by r s t p q x y z below below' n f at says_f e l says_e says_l
   given_by g (Gives.loop {x = y} r form by) says =
-      let (f, n, at, says_f) = form_at (N7 r) form in
+      let (f, n, at, says_f) = form_at (N7 r) tt form in
       let (x, says_x, by') = context_from y by says in
       looped_by _ r y x says_x by' n f at says_f
   given_by g (Gives.same_class {b = c} {c = d} a same) (one_more {f = f} says no_facts) = same_class_by a c d same f says
   given_by g (Gives.same_source {b = c} {r = r} {y = y} a same) (one_more {f = f} says no_facts) = same_source_by a c r y same f says
   given_by g (Gives.same_target {b = c} {r = r} {x = x} a same) (one_more {f = f} says no_facts) = same_target_by a c x r same f says
-  given_by g (Gives.different {a = a} c form same) no_facts =
-      let (f, n, at, says_f) = form_at (N11 a c) form in
-      different_by a c same n f at says_f
+  given_by g (Gives.different {a = a} c form same) no_facts = different_by a c same (h.all_forms (N11 a c) form)
   given_by g (Gives.denied {a = a} r c q form below) (one_more {f = e} says_e no_facts) =
-      let (f, n, at, says_f) = form_at (N12 a r c) form in
+      let (f, n, at, says_f) = form_at (N12 a r c) tt form in
       denied_by a r c q below n f at says_f e says_e
 
   mutual

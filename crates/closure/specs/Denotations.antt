@@ -1,7 +1,7 @@
 -- What facts over numbers say: the number of a prefix stands for its operands or steps.
 use Rattle.std.specs.Prelude.{◌≡◌, ◌↔◌, ℕ, List, slice_get, Some}
 use Rattle.std.specs.List.{Contains}
-use Rattle.axioms.specs.Ontology.{Ontology}
+use Rattle.axioms.specs.Ontology.{Ontology, nothing}
 use Rattle.axioms.specs.WellFormedness.{AreDistinct}
 use Rattle.axioms.specs.declared.ids.ExprId.{ExprId}
 use Rattle.axioms.specs.declared.ids.PropId.{PropId}
@@ -12,6 +12,7 @@ use Rattle.normal_forms.specs.declared.forms.PropId2 as code_property
 use Rattle.normal_forms.specs.declared.forms.PropId2.TheVariants as properties
 use Rattle.normal_forms.specs.declared.forms.Form as code_form
 use Rattle.normal_forms.specs.declared.forms.Form.TheVariants as forms
+use Rattle.normal_forms.specs.Apart.{AreListedAt}
 use Rattle.normal_forms.specs.Forms.{Class2, Whole, Prefix, Property2, Property, Steps, Form, N1, N2, N3, N4, N5, N6, N7, N8, N9, N10, N11, N12, IsForm}
 use Rattle.facts.specs.declared.contexts.Context as code_context
 use Rattle.facts.specs.declared.contexts.Context.TheVariants as contexts
@@ -59,15 +60,22 @@ pub data SaysForm (b : Prefixes) : code_form.Form → Form → Type 0 where
   n8 : {i : IndId} {i' : ℕ} {a : code_class.Class2} {a' : Class2} → i.0 ≡ i' → SaysClass b a a' → SaysForm b (forms.N8 i a) (N8 i' a')
   n9 : {i j : IndId} {i' j' : ℕ} {r : PropId} {r' : ℕ} → i.0 ≡ i' → r.0 ≡ r' → j.0 ≡ j' → SaysForm b (forms.N9 i r j) (N9 i' r' j')
   n10 : {i j : IndId} {i' j' : ℕ} → i.0 ≡ i' → j.0 ≡ j' → SaysForm b (forms.N10 i j) (N10 i' j')
-  n11 : {i j : IndId} {i' j' : ℕ} → i.0 ≡ i' → j.0 ≡ j' → SaysForm b (forms.N11 i j) (N11 i' j')
   n12 : {i j : IndId} {i' j' : ℕ} {r : PropId} {r' : ℕ} → i.0 ≡ i' → r.0 ≡ r' → j.0 ≡ j' → SaysForm b (forms.N12 i r j) (N12 i' r' j')
 
--- the forms and roots over numbers are exactly those of the ontology and of what is asked about; no prefix has two numbers
+-- a form over numbers says the form, or a list of what is apart has its two
+pub data IsSaid (b : Prefixes) (k : Problem) : Form → Type 0 where
+  by_form : {g : Form} (f : code_form.Form) → Contains k.forms f → SaysForm b f g → IsSaid b k g
+  by_classes : (l : ℕ) (c d : ExprId) → AreListedAt k.apart.classes l c d → IsSaid b k (N2 (Whole c.0) (Whole d.0) (Whole nothing))
+  by_individuals : (l : ℕ) (i j : IndId) → AreListedAt k.apart.individuals l i j → IsSaid b k (N11 i.0 j.0)
+
+-- the forms, lists and roots over numbers are exactly those of the ontology and of what is asked about; no prefix has two numbers
 pub record IsProblemOf (o : Ontology) (asked : List ℕ) (b : Prefixes) (k : Problem) : Type 0 where
   pub distinct_operands : AreDistinct b.operands
   pub distinct_steps : AreDistinct b.steps
   pub each_form : (f : code_form.Form) → Contains k.forms f → (g : Form) × SaysForm b f g × IsForm o asked g
-  pub all_forms : (g : Form) → IsForm o asked g → (f : code_form.Form) × Contains k.forms f × SaysForm b f g
+  pub each_disjoint : (l : ℕ) (c d : ExprId) → AreListedAt k.apart.classes l c d → IsForm o asked (N2 (Whole c.0) (Whole d.0) (Whole nothing))
+  pub each_different : (l : ℕ) (i j : IndId) → AreListedAt k.apart.individuals l i j → IsForm o asked (N11 i.0 j.0)
+  pub all_forms : (g : Form) → IsForm o asked g → IsSaid b k g
   pub each_root : (x : code_context.Context) → Contains k.roots x → (y : Context) × SaysContext x y × IsRoot o asked y
   pub all_roots : (y : Context) → IsRoot o asked y → (x : code_context.Context) × Contains k.roots x × SaysContext x y
 

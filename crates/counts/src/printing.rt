@@ -151,7 +151,7 @@ fn push_of_properties(
     }
 }
 
-/// The forms N8 to N12.
+/// The forms N8 to N10, and N12.
 fn push_of_individuals(
     alloc: Global,
     text: &mut String,
@@ -166,7 +166,6 @@ fn push_of_individuals(
         }
         Form::N9(a, r, b) => push_pair(alloc, text, "N9", (a, r, b)),
         Form::N10(a, b) => push_individuals(alloc, text, "N10", a, b),
-        Form::N11(a, b) => push_individuals(alloc, text, "N11", a, b),
         Form::N12(a, r, b) => push_pair(alloc, text, "N12", (a, r, b)),
         _ => Ok(()),
     }
@@ -180,12 +179,8 @@ fn push_origin(alloc: Global, text: &mut String, origin: Option<Origin>) -> Resu
     }
 }
 
-/// Each form in a line of its own, with what gave it, and then what was asked about.
-pub(crate) fn push_forms(
-    alloc: Global,
-    text: &mut String,
-    normal: &Normal,
-) -> Result<(), AllocError> {
+/// Each form in a line of its own, with what gave it.
+fn push_each(alloc: Global, text: &mut String, normal: &Normal) -> Result<(), AllocError> {
     for number in 0..normal.forms().len() {
         let form = normal.forms().at(number);
         push_inclusion(alloc, text, normal, form)?;
@@ -194,6 +189,101 @@ pub(crate) fn push_forms(
         push_origin(alloc, text, normal.origin(number))?;
         text.push_str("\n")?;
     }
+    Ok(())
+}
+
+/// N2 of the class and each of those behind it in a list of disjoint classes.
+fn push_disjoint_from(
+    alloc: Global,
+    text: &mut String,
+    first: ExprId,
+    behind: &[ExprId],
+    origin: Option<Origin>,
+) -> Result<(), AllocError> {
+    for second in behind {
+        text.push_str("N2")?;
+        push_number(alloc, text, "e", first.index())?;
+        push_number(alloc, text, "e", second.index())?;
+        push_number(alloc, text, "e", ExprId::NOTHING.index())?;
+        push_origin(alloc, text, origin)?;
+        text.push_str("\n")?;
+    }
+    Ok(())
+}
+
+/// N2 of each two of a list of disjoint classes.
+fn push_disjoint(
+    alloc: Global,
+    text: &mut String,
+    classes: &[ExprId],
+    origin: Option<Origin>,
+) -> Result<(), AllocError> {
+    for place in 0..classes.len() {
+        push_disjoint_from(alloc, text, classes[place], &classes[place + 1..], origin)?;
+    }
+    Ok(())
+}
+
+/// N11 of the individual and each of those behind it in a list of different individuals.
+fn push_different_from(
+    alloc: Global,
+    text: &mut String,
+    first: IndId,
+    behind: &[IndId],
+    origin: Option<Origin>,
+) -> Result<(), AllocError> {
+    for second in behind {
+        push_individuals(alloc, text, "N11", first, *second)?;
+        push_origin(alloc, text, origin)?;
+        text.push_str("\n")?;
+    }
+    Ok(())
+}
+
+/// N11 of each two of a list of different individuals.
+fn push_different(
+    alloc: Global,
+    text: &mut String,
+    individuals: &[IndId],
+    origin: Option<Origin>,
+) -> Result<(), AllocError> {
+    for place in 0..individuals.len() {
+        let behind = &individuals[place + 1..];
+        push_different_from(alloc, text, individuals[place], behind, origin)?;
+    }
+    Ok(())
+}
+
+/// The forms that lists of disjoint classes stand for.
+fn push_classes(alloc: Global, text: &mut String, normal: &Normal) -> Result<(), AllocError> {
+    let lists = &normal.apart().classes;
+    for list in 0..lists.len() {
+        let origin = normal.disjoint_axiom(list).map(Origin::Axiom);
+        push_disjoint(alloc, text, lists.at(list), origin)?;
+    }
+    Ok(())
+}
+
+/// The forms that lists of different individuals stand for.
+fn push_differences(alloc: Global, text: &mut String, normal: &Normal) -> Result<(), AllocError> {
+    let lists = &normal.apart().individuals;
+    for list in 0..lists.len() {
+        let origin = normal.different_axiom(list).map(Origin::Axiom);
+        push_different(alloc, text, lists.at(list), origin)?;
+    }
+    Ok(())
+}
+
+/// Each form in a line of its own, with what gave it, those that lists of what is apart stand for behind the others; and then what was
+/// asked about.
+pub(crate) fn push_forms(
+    alloc: Global,
+    text: &mut String,
+    normal: &Normal,
+) -> Result<(), AllocError> {
+    push_each(alloc, text, normal)?;
+    push_classes(alloc, text, normal)?;
+    push_differences(alloc, text, normal)?;
     if normal.asked().is_empty() {
         return Ok(());
     }

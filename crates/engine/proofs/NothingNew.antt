@@ -14,14 +14,14 @@ use Rattle.std.proofs.lemmas.Option.{slice_get-get_or}
 use Rattle.axioms.specs.WellFormedness.{AreDistinct}
 use Rattle.lemmas.proofs.Members.{Contains-from_slice_get, slice_get-from_Contains}
 use Rattle.normal_forms.specs.declared.forms.Form.{Form}
-use Rattle.normal_forms.specs.declared.forms.Form.TheVariants.{N1, N2, N3, N4, N5, N6, N7, N8, N9, N10, N11, N12}
+use Rattle.normal_forms.specs.declared.forms.Form.TheVariants.{N1, N2, N3, N4, N5, N6, N7, N8, N9, N10, N12}
 use Rattle.normal_forms.specs.declared.forms.PropId2.{PropId2}
 use Rattle.normal_forms.specs.declared.forms.PropId2.TheVariants.{Property}
 use Rattle.normal_forms.specs.Properties.{IsAtOrBelow, same, step}
 use Rattle.facts.specs.declared.contexts.Context.{Context}
 use Rattle.facts.specs.declared.contexts.Fact.{Fact}
 use Rattle.facts.specs.declared.contexts.Fact.TheVariants.{In, Edge}
-use Rattle.facts.specs.Closure.{Problem, IsContextBy, FromOne, FromTwo, Concludes, Gives, IsFact, in_thing, in_itself, by_form, unsatisfiable, loop, handed_on, different}
+use Rattle.facts.specs.Closure.{Problem, IsContextBy, FromOne, FromTwo, Concludes, Gives, IsFact, in_thing, in_itself, by_form, unsatisfiable, loop, handed_on, different, apart}
 use Rattle.facts.proofs.Least.{closed, least}
 use Rattle.facts.proofs.Sameness.{of_more}
 use Rattle.inference.proofs.Growth.{sound}
@@ -32,7 +32,7 @@ use Rattle.saturate.proofs.Counting.{not_more}
 use Rattle.saturate.proofs.Runs.{all_numbers_distinct, all_numbers_within, each_served, finished_is_closure}
 use Rattle.engine.specs.Saturations.{AsksForNoServed, BringsNothing, FinishedHasNonePending}
 
--- ---- what the new forms and contexts give
+-- ---- what the new forms, lists and contexts give
 
 module _ (old new : Problem) (nothing : BringsNothing old new) where
   was_below : (p q : PropId2) → IsAtOrBelow new.forms p q → IsAtOrBelow old.forms p q
@@ -56,7 +56,6 @@ module _ (old new : Problem) (nothing : BringsNothing old new) where
   two_before (N8 _ _) g h f w = absurd w
   two_before (N9 _ _ _) g h f w = absurd w
   two_before (N10 _ _) g h f w = absurd w
-  two_before (N11 _ _) g h f w = absurd w
   two_before (N12 _ _ _) g h f w = absurd w
 
   one_before : (form : Form) (g f : Fact) → FromOne new form g f → FromOne old form g f
@@ -74,7 +73,6 @@ module _ (old new : Problem) (nothing : BringsNothing old new) where
   one_before (N8 _ _) g f w = absurd w
   one_before (N9 _ _ _) g f w = absurd w
   one_before (N10 _ _) g f w = absurd w
-  one_before (N11 _ _) g f w = absurd w
 
   concluded_before : (form : Form) (older : List Fact) (f : Fact) → Concludes new form older f → Concludes old form older f
   concluded_before form [] f w = w
@@ -91,7 +89,7 @@ module _ (old new : Problem) (nothing : BringsNothing old new) where
   was_at : (n : ℕ) (form : Form) → slice_get new.forms n ≡ Some form → (m : ℕ) × (slice_get old.forms m ≡ Some form)
   was_at n form at = slice_get-from_Contains old.forms form (nothing.forms form (Contains-from_slice_get new.forms n form at))
 
-  -- what facts of the old closure give by the new forms and contexts is of the old closure
+  -- what facts of the old closure give by the new forms, lists and contexts is of the old closure
   given_before : (condition : ℕ) (form : Option ℕ) (older : List Fact) (f : Fact) → Gives new condition form older f → All (IsFact old) older → IsFact old f
   given_before _ _ older _ (in_thing {x = x} c) all = closed old _ _ older _ (in_thing (was_context older x c)) all
   given_before _ _ older _ (in_itself {e = e} c) all = closed old _ _ older _ (in_itself (was_context older _ c)) all
@@ -105,9 +103,12 @@ module _ (old new : Problem) (nothing : BringsNothing old new) where
   given_before _ _ older f (handed_on n form at h) all =
       let before = was_at n form at in
       closed old _ _ older f (handed_on before.0 form before.1 h) all
-  given_before _ _ older f (different n a b at one) all =
-      let before = was_at n (N11 a b) at in
-      closed old _ _ older f (different before.0 a b before.1 (of_more nothing.forms one)) all
+  given_before _ _ older f (different l a b (list, at, ordered) one) all =
+      let before = slice_get-from_Contains old.apart.individuals list (nothing.different list (Contains-from_slice_get new.apart.individuals l list at)) in
+      closed old _ _ older f (different before.0 a b (list, before.1, ordered) (of_more nothing.forms one)) all
+  given_before _ _ older f (apart l a b x (c, d, a_is, b_is, (list, at, ordered))) all =
+      let before = slice_get-from_Contains old.apart.classes list (nothing.disjoint list (Contains-from_slice_get new.apart.classes l list at)) in
+      closed old _ _ older f (apart before.0 a b x (c, d, a_is, b_is, (list, before.1, ordered))) all
 
   was_fact : (f : Fact) → IsFact new f → IsFact old f
   was_fact f is = least new (IsFact old) given_before f is
@@ -123,22 +124,22 @@ one_equality = record {
 
 -- a test finds no number twice
 apart_by_test : (xs : List ℕ) → AreDistinct xs → IsDistinct eqb xs
-apart_by_test xs apart = IsDistinct-from_apart eqb xs (λ i j d low within. ne_eqb (get_or xs i d) (get_or xs j d) (λ e. absurd (different i j d low within e)))
+apart_by_test xs distinct = IsDistinct-from_apart eqb xs (λ i j d low within. ne_eqb (get_or xs i d) (get_or xs j d) (λ e. absurd (different i j d low within e)))
   where
     different : (i j d : ℕ) → i < j → j < length xs → get_or xs i d ≡ get_or xs j d → ⊥
     different i j d low within e =
-        let one : i ≡ j = apart i j (get_or xs j d) (slice_get-get_or xs i d (omega (arith, low, within)) ∙ ap Some e) (slice_get-get_or xs j d within) in
+        let one : i ≡ j = distinct i j (get_or xs j d) (slice_get-get_or xs i d (omega (arith, low, within)) ∙ ap Some e) (slice_get-get_or xs j d within) in
         absurd (omega (arith, one, low))
 
 -- different numbers of a list are at most as many as it has
 at_most_as_many : (xs ys : List ℕ) → AreDistinct xs → ((n : ℕ) → Contains xs n → Contains ys n) → length xs ≤ length ys
-at_most_as_many xs ys apart each =
-    length-le_from_is_member one_equality xs ys (apart_by_test xs apart)
+at_most_as_many xs ys distinct each =
+    length-le_from_is_member one_equality xs ys (apart_by_test xs distinct)
     (λ n there. (is_member-Decides Decides-eqb ys n).1 (each n ((is_member-Decides Decides-eqb xs n).0 there)))
 
 -- and at most as many as are below a bound
 at_most_below : (xs : List ℕ) (bound : ℕ) → AreDistinct xs → ((n : ℕ) → Contains xs n → n < bound) → length xs ≤ bound
-at_most_below xs bound apart each = length-le_from_distinct_below xs bound (apart_by_test xs apart) (λ n there. each n (Contains-from_any eqb-true n xs there))
+at_most_below xs bound distinct each = length-le_from_distinct_below xs bound (apart_by_test xs distinct) (λ n there. each n (Contains-from_any eqb-true n xs there))
 
 -- the served facts of a state are at most as many as there are facts
 few_served : (s : Seen) → IsState s → length s.served ≤ length s.facts
@@ -147,7 +148,7 @@ few_served s state = at_most_below s.served (length s.facts) state.once state.wi
 -- ---- what is served
 
 -- where no new form asks for a served fact, exactly those that were served are, and each once
-pub as_many_served : (old new : Seen) → IsState old → IsState new → KeepsServed old.problem.forms new.problem.forms old.facts old.served new.served → AsksForNoServed old new → length new.served ≡ length old.served
+pub as_many_served : (old new : Seen) → IsState old → IsState new → KeepsServed old.problem new.problem old.facts old.served new.served → AsksForNoServed old new → length new.served ≡ length old.served
 as_many_served old new before now keeps none =
     let many : length old.served ≤ length new.served = at_most_as_many old.served new.served before.once (λ n there. (keeps n).1 (there, none n there)) in
     let few : length new.served ≤ length old.served = at_most_as_many new.served old.served now.once (λ n there. ((keeps n).0 there).0) in
@@ -192,11 +193,11 @@ module _ (old new : Seen) (nothing : BringsNothing old.problem new.problem) (bef
       (λ few. few)
       (cases_lt (length old.facts) (length new.facts))
 
-  -- no form is new, so each fact that was served is served
-  served_still : KeepsServed old.problem.forms new.problem.forms old.facts old.served new.served → (n : ℕ) → Contains old.served n → Contains new.served n
-  served_still keeps n there = (keeps n).1 (there, λ asked. asked.2.1.1 (nothing.forms asked.2.0 asked.2.1.0))
+  -- no form and no list is new, so each fact that was served is served
+  served_still : KeepsServed old.problem new.problem old.facts old.served new.served → (n : ℕ) → Contains old.served n → Contains new.served n
+  served_still keeps n there = (keeps n).1 (there, λ asked. ⊎_elim (λ w. w.1.1 (nothing.forms w.0 w.1.0)) (λ w. w.1.1 (nothing.disjoint w.0 w.1.0)) asked.2)
 
-  pub still_finished : KeepsServed old.problem.forms new.problem.forms old.facts old.served new.served → IsFinished new
+  pub still_finished : KeepsServed old.problem new.problem old.facts old.served new.served → IsFinished new
   still_finished keeps =
       let many : length old.served ≤ length new.served = at_most_as_many old.served new.served before.once (served_still keeps) in
       let few : length new.served ≤ length new.facts = few_served new now in

@@ -3,6 +3,8 @@ use Rattle.std.specs.Prelude.{◌≡◌, ◌↔◌, ℕ, ◌<◌, ◌≤◌, Boo
 use Rattle.std.specs.List.{All, Contains}
 use Rattle.axioms.specs.Ontology.{Ontology}
 use Rattle.axioms.specs.WellFormedness.{AreDistinct, IsOntology}
+use Rattle.axioms.specs.declared.ids.ExprId.{ExprId}
+use Rattle.axioms.specs.declared.ids.IndId.{IndId}
 use Rattle.axioms.specs.declared.lengths.Lengths.{Lengths}
 use Rattle.normal_forms.specs.declared.forms.Form.{Form}
 use Rattle.facts.specs.declared.contexts.Context.{Context}
@@ -45,6 +47,8 @@ pub record IsSound (o : Ontology) (s : Saturated) : Type 0 where
   pub asked : AreAsked o s.normal.asked
   -- the forms of the state are those of the entries, in the same order
   pub forms : s.state.problem.forms ≡ map form_in s.normal.entries
+  -- and so are the lists of what is apart
+  pub apart : s.state.problem.apart ≡ s.normal.apart
   pub problem : IsProblemOf o s.normal.asked (prefixes_of s.normal) s.state.problem
   pub facts : SayFactsOfTheClosure o s.normal.asked (prefixes_of s.normal) s.state.facts
   pub state : IsState s.state
@@ -70,6 +74,8 @@ pub record IsSaturated (o : Ontology) (s : Saturated) : Type 0 where
   pub asked : AreAsked o s.normal.asked
   -- the forms of the state are those of the entries, in the same order
   pub forms : s.state.problem.forms ≡ map form_in s.normal.entries
+  -- and so are the lists of what is apart
+  pub apart : s.state.problem.apart ≡ s.normal.apart
   pub problem : IsProblemOf o s.normal.asked (prefixes_of s.normal) s.state.problem
   pub facts : SayTheClosure o s.normal.asked (prefixes_of s.normal) s.state.facts
   pub state : IsState s.state
@@ -104,22 +110,24 @@ pub record Saturates (o : Ontology) (max_facts : ℕ) (new : Saturated) (result 
   pub saturated : OnOk result (IsSaturated o new)
   pub limit : result ≡ Err Limit → HasMoreFactsThan o new.normal.asked max_facts
 
--- each form is equal to one that was there, and each context that is there from the start was
+-- each form is equal to one that was there, and so is each list of what is apart, and each context that is there from the start was
 pub record BringsNothing (old new : Problem) : Type 0 where
   pub forms : (form : Form) → Contains new.forms form → Contains old.forms form
+  pub disjoint : (cs : List ExprId) → Contains new.apart.classes cs → Contains old.apart.classes cs
+  pub different : (is : List IndId) → Contains new.apart.individuals is → Contains old.apart.individuals is
   pub roots : (x : Context) → Contains new.roots x → Contains old.roots x
 
--- no form to which none was equal before asks for a served fact
+-- no form and no list of disjoint classes to which none was equal before asks for a served fact
 abbrev pub AsksForNoServed : (old new : Seen) → Type 0
-AsksForNoServed old new = (n : ℕ) → Contains old.served n → ¬ IsAskedAt old.problem.forms new.problem.forms old.facts n
+AsksForNoServed old new = (n : ℕ) → Contains old.served n → ¬ IsAskedAt old.problem new.problem old.facts n
 
--- forms, and what fresh names stand for, keep their numbers; facts stay at their places, with what gave them; and exactly the served
--- facts that a form asks for to which none was equal before are pending again
+-- forms, lists of what is apart, and what fresh names stand for, keep their numbers; facts stay at their places, with what gave them; and
+-- exactly the served facts that a form or a list of disjoint classes asks for to which none was equal before are pending again
 pub record KeepsFacts (old new : Saturated) : Type 0 where
   pub forms : Grown old.normal new.normal
   pub facts : Keeps old.state.facts new.state.facts
   pub births : Keeps old.state.births new.state.births
-  pub served : KeepsServed old.state.problem.forms new.state.problem.forms old.state.facts old.state.served new.state.served
+  pub served : KeepsServed old.state.problem new.state.problem old.state.facts old.state.served new.state.served
   -- where none of these asks for a served fact, as many are served as before
   pub stay : AsksForNoServed old.state new.state → length new.state.served ≡ length old.state.served
   -- where nothing is new, all facts are served if they were

@@ -13,8 +13,8 @@ use work_list::ByContext;
 
 impl Saturation {
     /// A saturation of an ontology that has grown, with an expression that is asked about: its forms are there, as of one that occurs
-    /// right and left, and it is a context. Nothing is run. Each fact stays at its place, and those that a new form asks for are pending
-    /// again. This one, all of whose facts are served, stays as it is.
+    /// right and left, and it is a context. Nothing is run. Each fact stays at its place, and those that a new form or a new list of
+    /// disjoint classes asks for are pending again. This one, all of whose facts are served, stays as it is.
     ///
     /// # Errors
     ///
@@ -42,7 +42,9 @@ impl Saturation {
         roots.push(Context::Expr(expr))?;
         let from = self.normal.forms().len();
         let list = ByContext::new(self.alloc);
-        let state = self.state.grown(list, normal.forms(), from, &roots)?;
+        let state = self
+            .state
+            .grown(list, normal.forms(), from, normal.apart(), &roots)?;
         Ok(Saturation {
             alloc: self.alloc,
             normal,

@@ -7,9 +7,10 @@ use axioms::{Lengths, Memory, Ontology};
 use normalise::roots_from;
 
 impl Saturation {
-    /// Adds what the ontology has more than an old one that had so much, and whose saturation it is: the forms of its new axioms and of
-    /// what occurs in them and did not before, and its new classes and individuals as contexts. Nothing is run. Each fact stays at its place, and those that
-    /// a new form asks for are pending again; where no form and no context is new, all facts are served if they were.
+    /// Adds what the ontology has more than an old one that had so much, and whose saturation it is: the forms and lists of its new axioms,
+    /// the forms of what occurs in them and did not before, and its new classes and individuals as contexts. Nothing is run. Each fact stays
+    /// at its place, and those that a new form or a new list of disjoint classes asks for are pending again; where no form, no list and no
+    /// context is new, all facts are served if they were.
     ///
     /// # Errors
     ///
@@ -26,8 +27,9 @@ impl Saturation {
         self.state.well_formed();
         let normal = self.normal.grown(new, old.axioms)?.share();
         let roots = roots_from(self.alloc, new, old.classes, old.individuals)?;
+        let from = self.normal.forms().len();
         self.state
-            .extend(normal.forms(), self.normal.forms().len(), &roots)?;
+            .extend(normal.forms(), from, normal.apart(), &roots)?;
         self.normal = normal;
         Ok(())
     }

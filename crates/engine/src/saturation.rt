@@ -194,11 +194,12 @@ fn begun(
     requires asked { normal.now.asked ≡ [] }
     ensures problem { IfOk result (λ s. IsProblemOf ontology.now normal.now.asked (prefixes_of normal.now) s.problem) }
     ensures forms { IfOk result (λ s. s.problem.forms ≡ map form_in normal.now.entries) }
+    ensures apart { IfOk result (λ s. s.problem.apart ≡ normal.now.apart) }
     ensures served { IfOk result (λ s. s.served ≡ []) }
 {
     let roots = roots(alloc, ontology, &[])?;
     let mut begun = State::new(alloc, state, ByContext::new(alloc))?;
-    match begun.extend(normal.forms(), 0, &roots) {
+    match begun.extend(normal.forms(), 0, normal.apart(), &roots) {
         Ok(()) => Ok(begun),
         Err(error) => {
             drop(begun);

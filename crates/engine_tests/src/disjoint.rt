@@ -1,12 +1,12 @@
-//! What is below two classes, where a list of disjoint classes is kept as one piece.
+//! What is below two classes of a list of disjoint classes.
 
-use crate::adding::add;
+use crate::adding::{add, add_lists, add_with_lists};
 use crate::numbered::{C1 as NOTHING, C2, C3, C4, C5 as BELOW, C6, IN5 as IN_BELOW};
-use axioms::{ExprId, Memory};
+use axioms::ExprId;
 use facts::Fact;
-use normal_forms::{Class2, Form, FormList};
+use normal_forms::{ApartLists, Class2, Form, FormList};
 use saturate::State;
-use std::alloc::Global;
+use std::alloc::{AllocError, Global};
 use std::hash::RandomState;
 use std::test::Fail;
 use work_list::Fifo;
@@ -92,32 +92,49 @@ const ROWS: &[Row] = &[
     },
 ];
 
-/// The list, and forms that put something below the two classes of the row.
-fn forms_of(alloc: Global, row: Row) -> Result<FormList, Memory> {
-    let mut forms = FormList::new(alloc);
-    forms.push_disjoint(row.list)?;
-    forms.push(Form::N1(BELOW, row.first))?;
-    forms.push(Form::N1(BELOW, row.second))?;
-    Ok(forms)
+/// The list of disjoint classes.
+fn list_of(alloc: Global, row: Row) -> Result<ApartLists, AllocError> {
+    let mut lists = ApartLists::new(alloc);
+    lists.classes.push_list(row.list)?;
+    Ok(lists)
+}
+
+/// The forms that put something below the two classes of the row.
+fn forms_of(alloc: Global, row: Row) -> Result<FormList, AllocError> {
+    FormList::of(
+        alloc,
+        &[Form::N1(BELOW, row.first), Form::N1(BELOW, row.second)],
+    )
 }
 
 /// Whether what is below the two classes is in `owl:Nothing` where it should be, and there are as many facts as there should be.
-fn is_right(state: &mut State<Fifo>, forms: &FormList, row: Row, is_nothing: bool) -> bool {
-    add(state, forms, &[IN_BELOW]).is_ok()
+fn is_right(state: &State<Fifo>, row: Row) -> bool {
+    let is_nothing = state.find(Fact::In(NOTHING, IN_BELOW)).is_some();
+    is_nothing == (row.second != C6) && state.facts().len() == row.facts
+}
+
+/// Whether it is so, with the list there at once.
+fn is_right_at_once(
+    state: &mut State<Fifo>,
+    alloc: Global,
+    forms: &FormList,
+    lists: &ApartLists,
+    row: Row,
+) -> bool {
+    add_with_lists(state, alloc, forms, lists, &[IN_BELOW]).is_ok()
         && state.run(100).is_ok()
-        && state.find(Fact::In(NOTHING, IN_BELOW)).is_some() == is_nothing
-        && state.facts().len() == row.facts
+        && is_right(state, row)
 }
 
 /// Whether a state has the facts of the row. It is made and dropped here alone.
 fn a_state_is_right(alloc: Global, seed: RandomState, row: Row) -> bool {
-    let Ok(forms) = forms_of(alloc, row) else {
+    let (Ok(forms), Ok(lists)) = (forms_of(alloc, row), list_of(alloc, row)) else {
         return false;
     };
     let Ok(mut state) = State::new(alloc, seed, Fifo::new(alloc)) else {
         return false;
     };
-    let right = is_right(&mut state, &forms, row, row.second != C6);
+    let right = is_right_at_once(&mut state, alloc, &forms, &lists, row);
     drop(state);
     right
 }
@@ -128,5 +145,53 @@ fn what_is_below_disjoint_classes_is_nothing(rt: HostRuntime) -> Result<(), Fail
         let seed = RandomState::new(&rt)?;
         assert!(rt; a_state_is_right(rt.alloc(), seed, *row), "{}", row.name);
     }
+    Ok(())
+}
+
+/// What a list leads to that comes later.
+const LATER: Row = Row {
+    name: "a list that comes later",
+    list: LONG,
+    first: C4,
+    second: C3,
+    facts: 5,
+};
+
+/// Whether the facts that something is in the two classes wait again where a list comes that has both, and no fact where the same list comes
+/// once more.
+fn waits_again(
+    state: &mut State<Fifo>,
+    alloc: Global,
+    forms: &FormList,
+    lists: &ApartLists,
+) -> bool {
+    add(state, alloc, forms, &[IN_BELOW]).is_ok()
+        && state.run(100).is_ok()
+        && state.served() == 4
+        && add_lists(state, alloc, lists).is_ok()
+        && state.served() == 2
+        && state.run(100).is_ok()
+        && is_right(state, LATER)
+        && add_lists(state, alloc, lists).is_ok()
+        && state.served() == 5
+}
+
+/// Whether they do in a state. It is made and dropped here alone.
+fn a_state_waits_again(alloc: Global, seed: RandomState) -> bool {
+    let (Ok(forms), Ok(lists)) = (forms_of(alloc, LATER), list_of(alloc, LATER)) else {
+        return false;
+    };
+    let Ok(mut state) = State::new(alloc, seed, Fifo::new(alloc)) else {
+        return false;
+    };
+    let right = waits_again(&mut state, alloc, &forms, &lists);
+    drop(state);
+    right
+}
+
+#[test]
+fn a_list_that_comes_later(rt: HostRuntime) -> Result<(), Fail> {
+    let seed = RandomState::new(&rt)?;
+    assert!(rt; a_state_waits_again(rt.alloc(), seed));
     Ok(())
 }

@@ -2,7 +2,7 @@
 
 use crate::numbered::{C1, C2, C4, R, S};
 use indexes::IndexedProblem;
-use normal_forms::{Class2, Form, FormList};
+use normal_forms::{ApartLists, Class2, Form, FormList};
 use std::test::Fail;
 
 /// Of fillers that are expressions and one that is a prefix, the end is above the greatest expression.
@@ -14,7 +14,8 @@ fn fillers_end_above_the_greatest(rt: HostRuntime) -> Result<(), Fail> {
         Form::N4(R, Class2::Partial(9), C1),
     ];
     let forms = FormList::of(rt.alloc(), &forms)?;
-    let problem = IndexedProblem::new(rt.alloc(), forms, Vec::new(rt.alloc()))?;
+    let apart = ApartLists::new(rt.alloc());
+    let problem = IndexedProblem::new(rt.alloc(), forms, apart, Vec::new(rt.alloc()))?;
     assert!(rt; problem.fillers_end() == 5);
     Ok(())
 }

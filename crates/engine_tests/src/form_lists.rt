@@ -26,7 +26,6 @@ const FORMS: &[Form] = &[
     Form::N8(IndId(18), Class2::Partial(19)),
     Form::N9(IndId(20), PropId(21), IndId(22)),
     Form::N10(IndId(23), IndId(24)),
-    Form::N11(IndId(25), IndId(26)),
     Form::N12(IndId(27), PropId(28), IndId(29)),
 ];
 
@@ -119,87 +118,5 @@ fn origins_in_eight_bytes(rt: HostRuntime) -> Result<(), Fail> {
         assert!(rt; kept == Some(*origin));
     }
     assert!(rt; StoredOrigin::new(Origin::Axiom(4_294_967_296)).is_none());
-    Ok(())
-}
-
-/// Classes that have nothing in common.
-const CLASSES: &[ExprId] = &[ExprId(30), ExprId(31), ExprId(32), ExprId(33)];
-
-fn disjoint(first: u32, second: u32) -> Form {
-    Form::N2(
-        Class2::Expr(ExprId(first)),
-        Class2::Expr(ExprId(second)),
-        Class2::Expr(ExprId::NOTHING),
-    )
-}
-
-/// The first two forms, then those of each two of the classes, and then the form of properties that is the fifth.
-fn around_disjoint() -> [Form; 9] {
-    [
-        FORMS[0],
-        FORMS[1],
-        disjoint(30, 31),
-        disjoint(30, 32),
-        disjoint(30, 33),
-        disjoint(31, 32),
-        disjoint(31, 33),
-        disjoint(32, 33),
-        FORMS[4],
-    ]
-}
-
-/// The same, pushed.
-fn pushed_around_disjoint(alloc: Global) -> Result<FormList, AllocError> {
-    let mut list = FormList::of(alloc, &FORMS[..2])?;
-    list.push_disjoint(CLASSES)?;
-    list.push(FORMS[4])?;
-    Ok(list)
-}
-
-/// Whether the list has the classes where their forms begin, and nowhere else.
-fn has_classes(list: &FormList) -> bool {
-    let Some(disjoint) = list.disjoint_from(2) else {
-        return false;
-    };
-    disjoint.classes == CLASSES
-        && disjoint.end == 8
-        && list.disjoint_from(1).is_none()
-        && list.disjoint_from(3).is_none()
-        && list.disjoint_from(8).is_none()
-        && list.entries() == 4
-}
-
-#[test]
-fn each_two_classes_are_disjoint(rt: HostRuntime) -> Result<(), Fail> {
-    let list = pushed_around_disjoint(rt.alloc())?;
-    let is_given_back = has(&list, &around_disjoint()) && has_classes(&list);
-    let property_forms = list.property_forms();
-    drop(list);
-    assert!(rt; is_given_back);
-    assert!(rt; property_forms?.as_slice() == &FORMS[4..5]);
-    Ok(())
-}
-
-/// Whether the list joined to itself has its forms twice, and the classes of both.
-fn are_joined_to_themselves(list: &FormList) -> Result<bool, AllocError> {
-    let joined = list.joined(list.copy()?)?;
-    let forms = around_disjoint();
-    for (number, form) in forms.iter().enumerate() {
-        if joined.get(number) != Some(*form) || joined.get(number + 9) != Some(*form) {
-            return Ok(false);
-        }
-    }
-    let Some(disjoint) = joined.disjoint_from(11) else {
-        return Ok(false);
-    };
-    Ok(disjoint.end == 17 && joined.len() == 18 && joined.entries() == 8)
-}
-
-#[test]
-fn disjoint_classes_are_joined(rt: HostRuntime) -> Result<(), Fail> {
-    let list = pushed_around_disjoint(rt.alloc())?.share();
-    let joined = are_joined_to_themselves(&list);
-    drop(list);
-    assert!(rt; joined?);
     Ok(())
 }

@@ -5,13 +5,13 @@ mod individuals;
 
 ghost use Rattle.std.specs.Prelude.{◌≡◌, []};
 
-use crate::adding::add;
+use crate::adding::{add, add_lists, add_with_lists, different};
 use crate::lists::{Refusing, Scripted};
 use crate::problems::{
     ALL_GO_ON, Born, CLASSES_MADE_DISJOINT, ONE_ENDS, PROBLEMS, Problem, SUBCLASS_STATED_AGAIN,
     SUBCLASSES_IN_A_CIRCLE, TWO_SUBCLASSES,
 };
-use acts::{ALL, AT_ONCE, Act, SCRIPTS};
+use acts::{ALL, ALL_LISTS, AT_ONCE, Act, SCRIPTS};
 use axioms::Memory;
 use facts::{FactId, Older, StoredFact};
 use normal_forms::FormList;
@@ -26,6 +26,7 @@ use work_list::{ByContext, Fifo, Lifo, WorkList};
 struct Progress {
     alloc: Global,
     forms: usize,
+    lists: usize,
     roots: usize,
     refused: u32,
 }
@@ -49,12 +50,32 @@ fn extend<W: WorkList>(
     let Ok(more) = FormList::of(progress.alloc, more) else {
         return Err(Stop::Memory);
     };
-    let added = add(state, &more, next(problem.roots, progress.roots, roots));
+    let contexts = next(problem.roots, progress.roots, roots);
+    let added = add(state, progress.alloc, &more, contexts);
     if added.is_err() {
         return Err(Stop::Memory);
     }
     progress.forms = progress.forms.saturating_add(forms);
     progress.roots = progress.roots.saturating_add(roots);
+    Ok(true)
+}
+
+/// Adds the next lists.
+fn extend_lists<W: WorkList>(
+    state: &mut State<W>,
+    problem: &Problem,
+    progress: &mut Progress,
+    lists: usize,
+) -> Result<bool, Stop> {
+    let more = next(problem.different, progress.lists, lists);
+    let Ok(more) = different(progress.alloc, more) else {
+        return Err(Stop::Memory);
+    };
+    let added = add_lists(state, progress.alloc, &more);
+    if added.is_err() {
+        return Err(Stop::Memory);
+    }
+    progress.lists = progress.lists.saturating_add(lists);
     Ok(true)
 }
 
@@ -67,6 +88,7 @@ fn perform<W: WorkList>(
 ) -> Result<bool, Stop> {
     match act {
         Act::Extend(forms, roots) => extend(state, problem, progress, forms, roots),
+        Act::Differ(lists) => extend_lists(state, problem, progress, lists),
         Act::Step => state.step(problem.facts).map(|_| true),
         Act::Run => state.run(problem.facts).map(|_| true),
         Act::Stop => state.run(problem.facts.saturating_sub(1)).map(|_| true),
@@ -107,7 +129,9 @@ fn follows<W: WorkList>(
             return false;
         }
     }
-    tried(state, problem, progress, ALL) && tried(state, problem, progress, Act::Run)
+    tried(state, problem, progress, ALL)
+        && tried(state, problem, progress, ALL_LISTS)
+        && tried(state, problem, progress, Act::Run)
 }
 
 /// How many older facts there are.
@@ -149,7 +173,18 @@ fn has_forms<W: WorkList>(state: &State<W>, problem: &Problem) -> bool {
     forms.len() == problem.forms.len()
 }
 
-/// Whether the state has the forms and the facts of the problem, all served, and each of these.
+/// Whether the state has just the lists of the problem.
+fn has_lists<W: WorkList>(state: &State<W>, problem: &Problem) -> bool {
+    let lists = &state.apart().individuals;
+    for (number, list) in problem.different.iter().enumerate() {
+        if lists.at(number) != *list {
+            return false;
+        }
+    }
+    lists.len() == problem.different.len()
+}
+
+/// Whether the state has the forms, the lists and the facts of the problem, all served, and each of these.
 fn has_ended<W: WorkList>(state: &State<W>, problem: &Problem, facts: &[StoredFact]) -> bool {
     for fact in facts {
         if !state.facts().iter().any(|known| known.get() == fact.get()) {
@@ -157,6 +192,7 @@ fn has_ended<W: WorkList>(state: &State<W>, problem: &Problem, facts: &[StoredFa
         }
     }
     has_forms(state, problem)
+        && has_lists(state, problem)
         && state.facts().len() == problem.facts as usize
         && state.served() == problem.facts as usize
         && problem
@@ -183,6 +219,7 @@ fn grows<W: WorkList + Drop>(
     let mut progress = Progress {
         alloc,
         forms: 0,
+        lists: 0,
         roots: 0,
         refused: 0,
     };
@@ -252,10 +289,13 @@ fn by_each_script(
 
 /// Adds all of the problem and runs to the end.
 fn run_whole(state: &mut State<Fifo>, alloc: Global, problem: &Problem) -> Result<(), Stop> {
-    let Ok(forms) = FormList::of(alloc, problem.forms) else {
+    let (Ok(forms), Ok(lists)) = (
+        FormList::of(alloc, problem.forms),
+        different(alloc, problem.different),
+    ) else {
         return Err(Stop::Memory);
     };
-    let Ok(()) = add(state, &forms, problem.roots) else {
+    let Ok(()) = add_with_lists(state, alloc, &forms, &lists, problem.roots) else {
         return Err(Stop::Memory);
     };
     state.run(problem.facts)

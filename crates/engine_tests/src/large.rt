@@ -1,9 +1,9 @@
 //! States with many facts: one that grows, and one that has its axioms at once.
 
-use crate::adding::add;
+use crate::adding::{add, add_lists};
 use axioms::{ExprId, IndId, Memory};
 use facts::Context;
-use normal_forms::{Class2, Form, FormList};
+use normal_forms::{ApartLists, Class2, Form, FormList};
 use saturate::State;
 use std::alloc::Global;
 use std::hash::RandomState;
@@ -37,7 +37,7 @@ fn extend<W: WorkList>(
     for pair in from..to {
         add_pair(&mut forms, &mut roots, pair)?;
     }
-    add(state, &forms, &roots)
+    add(state, alloc, &forms, &roots)
 }
 
 /// How many facts there are once these pairs are added, and the state has run.
@@ -59,7 +59,7 @@ fn facts_with<W: WorkList>(
 /// Adds `owl:Thing` and `owl:Nothing` as contexts.
 fn add_ends<W: WorkList>(state: &mut State<W>, alloc: Global) -> Result<(), Memory> {
     let ends = [Context::Expr(ExprId::THING), Context::Expr(ExprId::NOTHING)];
-    add(state, &FormList::new(alloc), &ends)
+    add(state, alloc, &FormList::new(alloc), &ends)
 }
 
 /// Whether 100,000 pairs lead to as many facts as they should, and 10,000 more to theirs: three facts in the context of each first
@@ -149,12 +149,13 @@ fn group_roots(alloc: Global) -> Result<Vec<Context>, Memory> {
 /// Adds the forms and contexts and runs to the end.
 fn is_added_and_run<W: WorkList>(
     state: &mut State<W>,
+    alloc: Global,
     forms: Result<FormList, Memory>,
     roots: Result<Vec<Context>, Memory>,
 ) -> bool {
     match (forms, roots) {
         (Ok(forms), Ok(roots)) => {
-            add(state, &forms, &roots).is_ok() && state.run(2_000_000) == Ok(())
+            add(state, alloc, &forms, &roots).is_ok() && state.run(2_000_000) == Ok(())
         }
         _ => false,
     }
@@ -162,9 +163,9 @@ fn is_added_and_run<W: WorkList>(
 
 /// Whether the group has two facts for each individual, and five for the classes; and no more where the class is asserted of each.
 fn has_a_group<W: WorkList>(state: &mut State<W>, alloc: Global) -> bool {
-    is_added_and_run(state, group_forms(alloc), group_roots(alloc))
+    is_added_and_run(state, alloc, group_forms(alloc), group_roots(alloc))
         && state.served() == 200_005
-        && is_added_and_run(state, class_forms(alloc), Ok(Vec::new(alloc)))
+        && is_added_and_run(state, alloc, class_forms(alloc), Ok(Vec::new(alloc)))
         && state.served() == 200_005
 }
 
@@ -182,5 +183,55 @@ fn a_state_has_a_group(alloc: Global, seed: RandomState) -> bool {
 fn hundred_thousand_in_one_group(rt: HostRuntime) -> Result<(), Fail> {
     let seed = RandomState::new(&rt)?;
     assert!(rt; a_state_has_a_group(rt.alloc(), seed));
+    Ok(())
+}
+
+/// The form that makes the first and the last of the individuals one.
+fn link_forms(alloc: Global) -> Result<FormList, Memory> {
+    let link = Form::N10(IndId(0), IndId(IN_ONE_GROUP - 1));
+    Ok(FormList::of(alloc, &[link])?)
+}
+
+/// The list of all individuals, of which each two differ.
+fn all_different(alloc: Global) -> Result<ApartLists, Memory> {
+    let mut individuals = Vec::new(alloc);
+    for number in 0..IN_ONE_GROUP {
+        individuals.push(IndId(number))?;
+    }
+    let mut lists = ApartLists::new(alloc);
+    lists.individuals.push_list(&individuals)?;
+    Ok(lists)
+}
+
+/// Whether there is one fact for each individual, and five for the classes; and once all individuals differ, two more, of those that are one.
+fn has_two_that_differ<W: WorkList>(
+    state: &mut State<W>,
+    alloc: Global,
+    lists: &ApartLists,
+) -> bool {
+    is_added_and_run(state, alloc, link_forms(alloc), group_roots(alloc))
+        && state.served() == 100_005
+        && add_lists(state, alloc, lists).is_ok()
+        && state.run(2_000_000) == Ok(())
+        && state.served() == 100_007
+}
+
+/// Whether a state does. It is made and dropped here alone.
+fn a_state_has_two_that_differ(alloc: Global, seed: RandomState) -> bool {
+    let Ok(lists) = all_different(alloc) else {
+        return false;
+    };
+    let Ok(mut state) = State::new(alloc, seed, ByContext::new(alloc)) else {
+        return false;
+    };
+    let right = has_two_that_differ(&mut state, alloc, &lists);
+    drop(state);
+    right
+}
+
+#[test]
+fn hundred_thousand_that_differ(rt: HostRuntime) -> Result<(), Fail> {
+    let seed = RandomState::new(&rt)?;
+    assert!(rt; a_state_has_two_that_differ(rt.alloc(), seed));
     Ok(())
 }

@@ -18,7 +18,7 @@ fn is_run<W: WorkList>(state: &mut State<W>, alloc: Global, problem: &Problem) -
     let Ok(forms) = FormList::of(alloc, problem.forms) else {
         return false;
     };
-    add(state, &forms, problem.roots) == Ok(()) && state.run(problem.facts) == Ok(())
+    add(state, alloc, &forms, problem.roots) == Ok(()) && state.run(problem.facts) == Ok(())
 }
 
 /// Whether the state has these facts and no others, all of them served.

@@ -4,6 +4,8 @@
 #[cfg(test)]
 mod adding;
 #[cfg(test)]
+mod apart_lists;
+#[cfg(test)]
 mod asked;
 #[cfg(test)]
 mod classifications;
@@ -61,8 +63,6 @@ mod sets;
 mod steps;
 #[cfg(test)]
 mod stored_facts;
-#[cfg(test)]
-mod stretches;
 #[cfg(test)]
 mod taken_out;
 #[cfg(test)]

@@ -71,7 +71,7 @@ fn extends<W: WorkList>(
     let Ok(forms) = FormList::of(alloc, forms) else {
         return false;
     };
-    add(state, &forms, roots).is_ok() && lists_served(state) && serves(state, facts, refused)
+    add(state, alloc, &forms, roots).is_ok() && lists_served(state) && serves(state, facts, refused)
 }
 
 /// Whether the lists are right throughout, with half of the forms first and then the others.
@@ -154,6 +154,7 @@ const AN_EDGE: Problem = Problem {
         Form::N9(IndId(0), PropId(0), IndId(1)),
         Form::N4(PropId(0), THING, C),
     ],
+    different: &[],
     roots: &[IN_A, FIRST, SECOND],
     facts: 9,
     born: None,

@@ -33,7 +33,7 @@ fn many<W: WorkList>(
     ends: Result<(), Stop>,
 ) -> Result<Option<(usize, usize)>, Memory> {
     let forms = FormList::of(alloc, forms)?;
-    add(state, &forms, roots)?;
+    add(state, alloc, &forms, roots)?;
     let at_once = state.facts().len();
     if state.run(limit) == ends {
         Ok(Some((at_once, state.facts().len())))

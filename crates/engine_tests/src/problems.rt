@@ -8,7 +8,7 @@ use axioms::{ExprId, IndId};
 use facts::{Context, Fact};
 use normal_forms::Form;
 
-/// A fact, by which condition and form it was given, and from how many older facts.
+/// A fact, by which condition and form or list it was given, and from how many older facts.
 #[derive(Drop)]
 pub(crate) struct Born(pub Fact, pub u8, pub u32, pub usize);
 
@@ -17,6 +17,8 @@ pub(crate) struct Born(pub Fact, pub u8, pub u32, pub usize);
 pub(crate) struct Problem {
     pub name: &'static str,
     pub forms: &'static [Form],
+    /// Lists of individuals of which each two differ.
+    pub different: &'static [&'static [IndId]],
     pub roots: &'static [Context],
     pub facts: u32,
     pub born: Option<Born>,
@@ -27,6 +29,7 @@ pub(crate) const PROBLEMS: &[Problem] = &[
     Problem {
         name: "unsatisfiable_class",
         forms: &[Form::N1(C2, C3), Form::N1(C2, C4), Form::N2(C3, C4, C1)],
+        different: &[],
         roots: &[IN0, IN1, IN2, IN3, IN4],
         facts: 12,
         born: None,
@@ -39,6 +42,7 @@ pub(crate) const PROBLEMS: &[Problem] = &[
             Form::N8(IndId(0), C2),
             Form::N8(IndId(0), C3),
         ],
+        different: &[],
         roots: &[IN0, IN1, IN2, IN3, IND0],
         facts: 11,
         born: None,
@@ -57,6 +61,7 @@ pub(crate) const PROBLEMS: &[Problem] = &[
             Form::N3(C8, R, ExprId(5)),
             Form::N4(R, C5, C8),
         ],
+        different: &[],
         roots: &[IN0, IN1, IN2, IN3, IN5, IN7],
         facts: 20,
         born: Some(Born(Fact::Edge(IN2, EDGES_R, IN5), 9, 4, 2)),
@@ -76,6 +81,7 @@ pub(crate) const PROBLEMS: &[Problem] = &[
             Form::N3(C8, R, ExprId(5)),
             Form::N4(R, C5, C8),
         ],
+        different: &[],
         roots: &[IN0, IN1, IN2, IN3, IN5, IN7],
         facts: 20,
         born: Some(Born(Fact::Edge(IN2, EDGES_R, IN5), 9, 0, 2)),
@@ -91,6 +97,7 @@ pub(crate) const PROBLEMS: &[Problem] = &[
             Form::N3(C4, S, ExprId(3)),
             Form::N4(S, C3, C4),
         ],
+        different: &[],
         roots: &[IN0, IN1, IN2, IN3],
         facts: 16,
         born: None,
@@ -99,6 +106,7 @@ pub(crate) const PROBLEMS: &[Problem] = &[
     Problem {
         name: "bottom_as_filler",
         forms: &[Form::N1(C2, C3), Form::N3(C3, R, ExprId(1))],
+        different: &[],
         roots: &[IN0, IN1, IN2],
         facts: 8,
         born: None,
@@ -112,6 +120,7 @@ pub(crate) const PROBLEMS: &[Problem] = &[
             Form::N9(IndId(0), R, IndId(1)),
             Form::N4(R, C0, C4),
         ],
+        different: &[],
         roots: &[IN0, IN1, IN2, IN3, IN4, IND0, IND1, IND2],
         facts: 17,
         born: None,
@@ -127,6 +136,7 @@ pub(crate) const PROBLEMS: &[Problem] = &[
             Form::N7(R),
             Form::N5(R, S),
         ],
+        different: &[],
         roots: &[IN0, IN1, IN2, IN3],
         facts: 16,
         born: None,
@@ -145,6 +155,7 @@ pub(crate) const PROBLEMS: &[Problem] = &[
             Form::N1(C2, C4),
             Form::N6(EDGES_R, EDGES_S, EDGES_R),
         ],
+        different: &[],
         roots: &[IN7, IN5, IN3, IN2, IN1, IN0],
         facts: 20,
         born: Some(Born(Fact::Edge(IN2, EDGES_R, IN5), 9, 8, 2)),
@@ -159,6 +170,7 @@ pub(crate) const PROBLEMS: &[Problem] = &[
             Form::N9(IndId(2), R, IndId(3)),
             Form::N9(IndId(3), R, IndId(4)),
         ],
+        different: &[],
         roots: &[IN0, IN1, IND0],
         facts: 18,
         born: Some(Born(Fact::Edge(IND0, EDGES_R, IND4), 9, 0, 2)),
@@ -173,6 +185,7 @@ pub(crate) const PROBLEMS: &[Problem] = &[
             Form::N9(IndId(2), R, IndId(3)),
             Form::N6(EDGES_R, EDGES_R, EDGES_R),
         ],
+        different: &[],
         roots: &[IND2, IND0, IN1, IN0],
         facts: 18,
         born: Some(Born(Fact::Edge(IND0, EDGES_R, IND4), 9, 4, 2)),
@@ -187,6 +200,7 @@ pub(crate) const PROBLEMS: &[Problem] = &[
             Form::N9(IndId(2), S, IndId(3)),
             Form::N6(EDGES_R, EDGES_R, EDGES_R),
         ],
+        different: &[],
         roots: &[IN0, IN1, IND0],
         facts: 13,
         born: None,
@@ -201,6 +215,7 @@ pub(crate) const PROBLEMS: &[Problem] = &[
             Form::N9(IndId(2), R, IndId(3)),
             Form::N6(EDGES_R, EDGES_R, EDGES_S),
         ],
+        different: &[],
         roots: &[IN0, IN1, IND0],
         facts: 16,
         born: None,
@@ -226,6 +241,7 @@ pub(crate) const ALL_GO_ON: &[Problem] = &[
             Form::N9(IndId(9), R, IndId(10)),
             Form::N9(IndId(10), R, IndId(11)),
         ],
+        different: &[],
         roots: &[IND0],
         facts: 78,
         born: None,
@@ -242,6 +258,7 @@ pub(crate) const ALL_GO_ON: &[Problem] = &[
             Form::N9(IndId(3), S, IndId(4)),
             Form::N6(EDGES_R, EDGES_R, EDGES_R),
         ],
+        different: &[],
         roots: &[IND0],
         facts: 21,
         born: None,
@@ -257,6 +274,7 @@ pub(crate) const ALL_GO_ON: &[Problem] = &[
             Form::N9(IndId(4), S, IndId(0)),
             Form::N6(EDGES_S, EDGES_R, EDGES_S),
         ],
+        different: &[],
         roots: &[IND4],
         facts: 15,
         born: None,
@@ -276,6 +294,7 @@ pub(crate) const ONE_ENDS: &[Problem] = &[
             Form::N9(IndId(4), S, IndId(0)),
             Form::N6(EDGES_S, EDGES_R, EDGES_T),
         ],
+        different: &[],
         roots: &[IND4],
         facts: 15,
         born: None,
@@ -292,6 +311,7 @@ pub(crate) const ONE_ENDS: &[Problem] = &[
             Form::N6(EDGES_S, EDGES_U, EDGES_T),
             Form::N5(R, U),
         ],
+        different: &[],
         roots: &[IND4],
         facts: 15,
         born: None,
@@ -302,6 +322,7 @@ pub(crate) const ONE_ENDS: &[Problem] = &[
 pub(crate) const TWO_SUBCLASSES: Problem = Problem {
     name: "two_subclasses",
     forms: &[Form::N1(C2, C3), Form::N1(C4, C5)],
+    different: &[],
     roots: &[IN0, IN1, IN2, IN3, IN4, IN5],
     facts: 13,
     born: None,
@@ -311,6 +332,7 @@ pub(crate) const TWO_SUBCLASSES: Problem = Problem {
 pub(crate) const SUBCLASSES_IN_A_CIRCLE: Problem = Problem {
     name: "subclasses_in_a_circle",
     forms: &[Form::N1(C2, C3), Form::N1(C3, C2)],
+    different: &[],
     roots: &[IN0, IN1, IN2, IN3],
     facts: 9,
     born: None,
@@ -320,6 +342,7 @@ pub(crate) const SUBCLASSES_IN_A_CIRCLE: Problem = Problem {
 pub(crate) const CLASSES_MADE_DISJOINT: Problem = Problem {
     name: "classes_made_disjoint",
     forms: &[Form::N1(C2, C3), Form::N2(C2, C3, C1)],
+    different: &[],
     roots: &[IN0, IN1, IN2, IN3],
     facts: 9,
     born: None,
@@ -329,6 +352,7 @@ pub(crate) const CLASSES_MADE_DISJOINT: Problem = Problem {
 pub(crate) const SUBCLASS_STATED_AGAIN: Problem = Problem {
     name: "subclass_stated_again",
     forms: &[Form::N1(C2, C3), Form::N1(C2, C3)],
+    different: &[],
     roots: &[IN0, IN1, IN2, IN3],
     facts: 8,
     born: None,

@@ -1,12 +1,11 @@
 //! Documents whose facts a list of work leads to that hands one item back: they are those of one run.
 ghost use Rattle.std.specs.Prelude.{◌≡◌, []};
 
-use crate::adding::add;
+use crate::adding::add_with_lists;
 use crate::lists::Refusing;
 use axioms::Ontology;
 use facts::{Context, StoredFact};
-use normal_forms::FormList;
-use normalise::{normalise, roots};
+use normalise::{Normal, normalise, roots};
 use profile::{Version, read_bytes};
 use saturate::{State, Stop};
 use std::alloc::Global;
@@ -46,14 +45,39 @@ const ROWS: &[(&str, &str, u32)] = &[
         "Prefix(:=<x:>) Ontology(SameIndividual(:b :c) ObjectPropertyAssertion(:r :a :b) ObjectPropertyAssertion(:s :c :d) SubObjectPropertyOf(ObjectPropertyChain(:r :s) :t) ObjectPropertyDomain(:t :A))",
         15,
     ),
+    (
+        "different_by_way_of_a_third",
+        "Prefix(:=<x:>) Ontology(SameIndividual(:a :b) SameIndividual(:b :c) DifferentIndividuals(:d :a :c))",
+        10,
+    ),
+    (
+        "in_two_of_eight_disjoint_classes",
+        "Prefix(:=<x:>) Ontology(DisjointClasses(:A :B :C :D :E :F :G :H) ClassAssertion(:C :a) ClassAssertion(:B :a))",
+        23,
+    ),
 ];
 
+/// Adds the forms, the lists of what is apart, and the contexts.
+fn is_added<W: WorkList>(
+    state: &mut State<W>,
+    alloc: Global,
+    normal: &Normal,
+    contexts: &[Context],
+) -> bool {
+    add_with_lists(state, alloc, normal.forms(), normal.apart(), contexts).is_ok()
+}
+
 /// Adds all, once more where it was refused, and says how often it was.
-fn added<W: WorkList>(state: &mut State<W>, forms: &FormList, contexts: &[Context]) -> Option<u32> {
-    if add(state, forms, contexts).is_ok() {
+fn added<W: WorkList>(
+    state: &mut State<W>,
+    alloc: Global,
+    normal: &Normal,
+    contexts: &[Context],
+) -> Option<u32> {
+    if is_added(state, alloc, normal, contexts) {
         return Some(0);
     }
-    add(state, forms, contexts).is_ok().then_some(1)
+    is_added(state, alloc, normal, contexts).then_some(1)
 }
 
 /// Runs to the end, once more where that was refused, and says how often it was.
@@ -87,7 +111,7 @@ fn has_ended<W: WorkList>(state: &State<W>, facts: &[StoredFact]) -> bool {
 fn ends<W: WorkList + Drop>(
     alloc: Global,
     seed: RandomState,
-    forms: &FormList,
+    normal: &Normal,
     contexts: &[Context],
     facts: &[StoredFact],
     list: W,
@@ -98,7 +122,7 @@ fn ends<W: WorkList + Drop>(
     let Ok(mut state) = State::new(alloc, seed, list) else {
         return None;
     };
-    let adding = added(&mut state, forms, contexts);
+    let adding = added(&mut state, alloc, normal, contexts);
     let running = ran(&mut state, most);
     let right = has_ended(&state, facts);
     drop(state);
@@ -113,13 +137,13 @@ fn ends<W: WorkList + Drop>(
 fn with_each_push_refused(
     alloc: Global,
     seed: RandomState,
-    forms: &FormList,
+    normal: &Normal,
     contexts: &[Context],
     facts: &[StoredFact],
 ) -> bool {
     for push in 1..200 {
         let list = Refusing::new(alloc, push);
-        match ends(alloc, seed, forms, contexts, facts, list) {
+        match ends(alloc, seed, normal, contexts, facts, list) {
             Some(1) => {}
             Some(0) => return push as usize > facts.len(),
             _ => return false,
@@ -132,17 +156,17 @@ fn with_each_push_refused(
 fn leads_to(
     alloc: Global,
     seed: RandomState,
-    forms: &FormList,
+    normal: &Normal,
     contexts: &[Context],
     facts: u32,
 ) -> bool {
     let Ok(mut whole) = State::new(alloc, seed, Fifo::new(alloc)) else {
         return false;
     };
-    let right = add(&mut whole, forms, contexts) == Ok(())
+    let right = is_added(&mut whole, alloc, normal, contexts)
         && whole.run(facts) == Ok(())
         && whole.facts().len() == facts as usize
-        && with_each_push_refused(alloc, seed, forms, contexts, whole.facts());
+        && with_each_push_refused(alloc, seed, normal, contexts, whole.facts());
     drop(whole);
     right
 }
@@ -155,7 +179,7 @@ fn fits(alloc: Global, seed: RandomState, ontology: &Ontology, facts: u32) -> bo
     let Ok(contexts) = roots(alloc, ontology, &[]) else {
         return false;
     };
-    let right = leads_to(alloc, seed, normal.forms(), &contexts, facts);
+    let right = leads_to(alloc, seed, &normal, &contexts, facts);
     drop(normal);
     right
 }

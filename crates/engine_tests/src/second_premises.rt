@@ -51,11 +51,11 @@ fn run_in_two_parts<W: WorkList>(
     let (Ok(first), Ok(rest)) = (FormList::of(alloc, first), FormList::of(alloc, rest)) else {
         return Err(Stop::Memory);
     };
-    let Ok(()) = add(state, &first, problem.roots) else {
+    let Ok(()) = add(state, alloc, &first, problem.roots) else {
         return Err(Stop::Memory);
     };
     state.run(problem.facts)?;
-    let Ok(()) = add(state, &rest, &[]) else {
+    let Ok(()) = add(state, alloc, &rest, &[]) else {
         return Err(Stop::Memory);
     };
     state.run(problem.facts)

@@ -38,7 +38,7 @@ fn add_all<W: WorkList>(
     problem: &Problem,
 ) -> Result<(), Memory> {
     let forms = FormList::of(alloc, problem.forms)?;
-    add(state, &forms, problem.roots)
+    add(state, alloc, &forms, problem.roots)
 }
 
 /// Whether the state has the facts of the problem after as many steps.

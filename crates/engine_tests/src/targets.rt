@@ -52,7 +52,7 @@ const MOST: u32 = 100;
 /// Adds all that the row has.
 fn add_all<W: WorkList>(state: &mut State<W>, alloc: Global, row: &Row) -> Result<(), Memory> {
     let forms = FormList::of(alloc, row.forms)?;
-    add(state, &forms, row.roots)
+    add(state, alloc, &forms, row.roots)
 }
 
 /// Whether all classes that are ever in the target are served before the first edge from the source.

@@ -3,7 +3,7 @@
 use crate::numbered::{C1, C2, C3, EDGES_P, EDGES_R, EDGES_S, EDGES_T, R, S, T};
 use axioms::IndId;
 use indexes::IndexedProblem;
-use normal_forms::{Class2, Form, FormList};
+use normal_forms::{ApartLists, Class2, Form, FormList};
 use std::alloc::{AllocError, Global};
 use std::test::Fail;
 
@@ -32,7 +32,7 @@ fn with_pairs(alloc: Global) -> Result<IndexedProblem, AllocError> {
         Form::N12(A, R, C),
     ];
     let forms = FormList::of(alloc, &forms)?;
-    IndexedProblem::new(alloc, forms, Vec::new(alloc))
+    IndexedProblem::new(alloc, forms, ApartLists::new(alloc), Vec::new(alloc))
 }
 
 /// Those of a filler are told by their properties.

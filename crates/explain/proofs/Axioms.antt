@@ -11,7 +11,7 @@ use Rattle.certificate.specs.Certificate.{Subject, Conclusion, Sub, Line}
 use Rattle.certificate.specs.Certificate as line
 use Rattle.cert_check.specs.Derivation.{at_numbers}
 use Rattle.cert_check.specs.Lines.{IsWalk, Follows}
-use Rattle.closure.specs.Denotations.{Prefixes, whole, SaysProperty, property, steps, SaysForm, n1, n2, n4, n5, n6, n7, n8, n9, n10, n11, n12}
+use Rattle.closure.specs.Denotations.{Prefixes, whole, SaysProperty, property, steps, SaysForm, n1, n2, n4, n5, n6, n7, n8, n9, n10, n12}
 use Rattle.exactness.proofs.Derivable.{conclusions}
 use Rattle.explain.proofs.Prefixes.{take_one, at_first}
 use Rattle.explain.proofs.Births.{TakesByAxiom}
@@ -176,8 +176,9 @@ module _ (o : Ontology) (b : Prefixes) (k : Problem) (lines : List Line) (number
   no_same : (i j : ℕ) (form : code_form.Form) → SaysForm b form (N10 i j) → (older : List Fact) (f : Fact) → Given form older f → ⊥
   no_same i j form (n10 says_i says_j) older f (takes, shown) = takes
 
-  no_different : (i j : ℕ) (form : code_form.Form) → SaysForm b form (N11 i j) → (older : List Fact) (f : Fact) → Given form older f → ⊥
-  no_different i j form (n11 says_i says_j) older f (takes, shown) = takes
+  -- that individuals differ no form over numbers says
+  no_different : (i j : ℕ) (form : code_form.Form) → SaysForm b form (N11 i j) → ⊥
+  no_different i j form says = elim says [ ]
 
   denied_leads : (r i j : ℕ) (form : code_form.Form) → SaysForm b form (N12 i r j) → (older : List Fact) (f : Fact) → Given form older f → Lead (NegativePropertyAssertion r i j) (said_by f) f
   denied_leads r i j form (n12 {i = x} {j = y} {r = p} says_i says_r says_j) older f ((q, only, below, is), shown) =
@@ -213,5 +214,5 @@ module _ (o : Ontology) (b : Prefixes) (k : Problem) (lines : List Line) (number
   axiom_leads (ClassAssertion c a) form g says gives older f takes shown = assertion_leads c a form (subst (SaysForm b form) gives says) older f (takes, shown)
   axiom_leads (PropertyAssertion r i j) form g says gives older f takes shown = edge_assertion_leads r i j form (subst (SaysForm b form) gives says) older f (takes, shown)
   axiom_leads (SameIndividuals xs) form g says (n, (i, j, at_i, at_j, made)) older f takes shown = absurd (no_same i j form (subst (SaysForm b form) made says) older f (takes, shown))
-  axiom_leads (DifferentIndividuals xs) form g says (m, (n, (i, j, low, at_i, at_j, made))) older f takes shown = absurd (no_different i j form (subst (SaysForm b form) made says) older f (takes, shown))
+  axiom_leads (DifferentIndividuals xs) form g says (m, (n, (i, j, low, at_i, at_j, made))) older f takes shown = absurd (no_different i j form (subst (SaysForm b form) made says))
   axiom_leads (NegativePropertyAssertion r i j) form g says gives older f takes shown = denied_leads r i j form (subst (SaysForm b form) gives says) older f (takes, shown)

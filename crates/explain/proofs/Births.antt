@@ -1,5 +1,5 @@
 -- What a form takes, from what gave a fact.
-use Rattle.std.proofs.Common.{◌≡◌, ℕ, ◌<◌, List, [], ◌∷◌, drop, map, length, slice_get, take, option_map, Option, Some, None, true, Contains, inl, inr, refl, sym, ap, ap₂, ◌∙◌, subst}
+use Rattle.std.proofs.Common.{◌≡◌, ◌⊎◌, ℕ, ◌<◌, ◌≤◌, List, [], ◌∷◌, drop, map, length, slice_get, take, option_map, Option, Some, None, true, Contains, inl, inr, refl, sym, ap, ap₂, ◌∙◌, subst, arith}
 use Rattle.std.proofs.lemmas.List.{take-map}
 use Rattle.std.proofs.lemmas.Option.{same_Some, none-some, slice_get_within}
 use Rattle.lemmas.proofs.Members.{Contains-none, Contains-cons_cases}
@@ -10,8 +10,9 @@ use Rattle.axioms.specs.declared.ids.IndId.{IndId}
 use Rattle.engine.specs.Saturations.{Saturated, IsSaturated}
 use Rattle.explain.specs.OlderFacts.{rests_on, by_axiom, is_by_axiom, is_axiom}
 use Rattle.explain.specs.Premises.{LiftTo, LiftsTo, TakesNoSame, first_property, second_property}
+use Rattle.explain.specs.Uses.{NamesForm}
 use Rattle.facts.specs.Births.{Reason}
-use Rattle.facts.specs.Closure.{Problem, Gives, in_thing, in_itself, by_form, unsatisfiable, loop, handed_on, different, Concludes, IsLoop, Links, HandsOn, condition, nothing}
+use Rattle.facts.specs.Closure.{Problem, Gives, in_thing, in_itself, by_form, unsatisfiable, loop, handed_on, different, apart, Concludes, IsLoop, Links, HandsOn, condition, nothing}
 use Rattle.facts.specs.declared.contexts.Context.{Context}
 use Rattle.facts.specs.declared.contexts.Context.TheVariants.{Individual}
 use Rattle.facts.specs.declared.contexts.Fact.{Fact}
@@ -19,7 +20,7 @@ use Rattle.facts.specs.declared.contexts.Fact.TheVariants.{In, Edge}
 use Rattle.normal_forms.specs.Properties.{IsAtOrBelow}
 use Rattle.normal_forms.specs.declared.forms.Class2.{Class2}
 use Rattle.normal_forms.specs.declared.forms.Form.{Form}
-use Rattle.normal_forms.specs.declared.forms.Form.TheVariants.{N1, N2, N3, N4, N5, N6, N7, N8, N9, N10, N11, N12}
+use Rattle.normal_forms.specs.declared.forms.Form.TheVariants.{N1, N2, N3, N4, N5, N6, N7, N8, N9, N10, N12}
 use Rattle.normal_forms.specs.declared.forms.Origin.TheVariants as origins
 use Rattle.normal_forms.specs.declared.forms.PropId2.{PropId2}
 use Rattle.normal_forms.specs.declared.forms.PropId2.TheVariants.{Property}
@@ -63,7 +64,6 @@ TakesByAxiom k (N7 r) older f = (x : Context) × (older ≡ []) × (f ≡ Edge x
 TakesByAxiom k (N8 i a) older f = Concludes k (N8 i a) older f
 TakesByAxiom k (N9 i r j) older f = Concludes k (N9 i r j) older f
 TakesByAxiom k (N10 i j) older f = ⊥
-TakesByAxiom k (N11 i j) older f = ⊥
 TakesByAxiom k (N12 i r j) older f = (q : PropId2) × (older ≡ Edge (Individual i) q (Individual j) ∷ []) × IsAtOrBelow k.forms q (Property r) × (f ≡ In nothing (Individual i))
 
 -- the facts at the numbers on which the line rests are what such a form takes
@@ -137,7 +137,6 @@ module _ (k : Problem) (facts : List Fact) (entries : List Entry) (m : ℕ) (by 
   concluded_by numbers older (N8 i a) f free at c = record { older = older; at = at; takes = c }
   concluded_by numbers older (N9 i r j) f free at c = record { older = older; at = at; takes = c }
   concluded_by numbers older (N10 i j) f free at c = absurd free
-  concluded_by numbers older (N11 i j) f free at c = absurd free
   concluded_by numbers older (N12 i r j) f free at c = by_denied numbers older i r j f at c
 
   looped_by : (numbers : List ℕ) (x : Context) (form : Form) (f : Fact) → IsLoop x form f → Taken 10 numbers (Some m) form f
@@ -151,24 +150,46 @@ module _ (k : Problem) (facts : List Fact) (entries : List Entry) (m : ℕ) (by 
   looped_by numbers x (N8 i a) f is = absurd is
   looped_by numbers x (N9 i r j) f is = absurd is
   looped_by numbers x (N10 i j) f is = absurd is
-  looped_by numbers x (N11 i j) f is = absurd is
   looped_by numbers x (N12 i r j) f is = absurd is
 
   same_form : {n : ℕ} {form form' : Form} → Some n ≡ Some m → slice_get k.forms n ≡ Some form' → slice_get k.forms m ≡ Some form → form' ≡ form
   same_form {n} {form} {form'} e at there = same_Some form' form (sym at ∙ ap (slice_get k.forms) (same_Some n m e) ∙ there)
 
-  taken_by : {c : ℕ} {place : Option ℕ} {older : List Fact} {f : Fact} (numbers : List ℕ) (form : Form) → TakesNoSame form → Gives k c place older f → place ≡ Some m → slice_get k.forms m ≡ Some form → map (slice_get facts) numbers ≡ map Some older → Taken c numbers place form f
-  taken_by numbers form free (in_thing by') e there at = absurd (none-some m e)
-  taken_by numbers form free (in_itself by') e there at = absurd (none-some m e)
-  taken_by numbers form free (unsatisfiable back) e there at = absurd (none-some m e)
-  taken_by {older = older} {f = f} numbers form free (by_form n form' at_n c) e there at =
+  taken_by : {c : ℕ} {place : Option ℕ} {older : List Fact} {f : Fact} (numbers : List ℕ) (form : Form) → TakesNoSame form → NamesForm c → Gives k c place older f → place ≡ Some m → slice_get k.forms m ≡ Some form → map (slice_get facts) numbers ≡ map Some older → Taken c numbers place form f
+  taken_by numbers form free of_form (in_thing by') e there at = absurd (none-some m e)
+  taken_by numbers form free of_form (in_itself by') e there at = absurd (none-some m e)
+  taken_by numbers form free of_form (unsatisfiable back) e there at = absurd (none-some m e)
+  taken_by {older = older} {f = f} numbers form free of_form (by_form n form' at_n c) e there at =
       subst (λ (p : Option ℕ). Taken (condition form') numbers p form f) (sym e)
       (subst (λ g. Taken (condition form') numbers (Some m) g f) (same_form e at_n there) (concluded_by numbers older form' f (subst TakesNoSame (sym (same_form e at_n there)) free) at c))
-  taken_by {f = f} numbers form free (loop x n form' at_n is by') e there at =
+  taken_by {f = f} numbers form free of_form (loop x n form' at_n is by') e there at =
       subst (λ (p : Option ℕ). Taken 10 numbers p form f) (sym e)
       (subst (λ g. Taken 10 numbers (Some m) g f) (same_form e at_n there) (looped_by numbers x form' f is))
-  taken_by numbers form free (handed_on n form' at_n hands) e there at = absurd (other_hand form' (subst TakesNoSame (sym (same_form e at_n there)) free) hands)
-  taken_by numbers form free (different n a b at_n same) e there at = absurd (subst TakesNoSame (sym (same_form e at_n there)) free)
+  taken_by numbers form free of_form (handed_on n form' at_n hands) e there at = absurd (other_hand form' (subst TakesNoSame (sym (same_form e at_n there)) free) hands)
+  taken_by numbers form free of_form (different l a b listed same) e there at = absurd (of_form.0 refl)
+  taken_by numbers form free of_form (apart l a b x listed) e there at = absurd (of_form.1 refl)
+
+-- ---- the conditions of forms
+
+below_lists : (form : Form) → (condition form ≤ 11) ⊎ (condition form ≡ 13)
+below_lists (N1 _ _) = inl (omega arith)
+below_lists (N2 _ _ _) = inl (omega arith)
+below_lists (N3 _ _ _) = inl (omega arith)
+below_lists (N4 _ _ _) = inl (omega arith)
+below_lists (N5 _ _) = inl (omega arith)
+below_lists (N6 _ _ _) = inl (omega arith)
+below_lists (N7 _) = inl (omega arith)
+below_lists (N8 _ _) = inl (omega arith)
+below_lists (N9 _ _ _) = inl (omega arith)
+below_lists (N10 _ _) = inl (omega arith)
+below_lists (N12 _ _ _) = inr refl
+
+-- none is one of lists
+pub of_a_form : (form : Form) → NamesForm (condition form)
+of_a_form form = elim (below_lists form) [
+  | inl l ↦ ((λ e. (let bad : ⊥ = omega (arith, e, l) in bad)), (λ e. (let bad : ⊥ = omega (arith, e, l) in bad)))
+  | inr l ↦ ((λ e. (let bad : ⊥ = omega (arith, e, l) in bad)), (λ e. (let bad : ⊥ = omega (arith, e, l) in bad)))
+]
 
 -- ---- which facts are there, and which edges are lifted
 
@@ -196,7 +217,6 @@ takes_lead_up k (N7 r) older f t = none_named k.forms (N7 r) older refl refl
 takes_lead_up k (N8 i a) older f t = none_named k.forms (N8 i a) older refl refl
 takes_lead_up k (N9 i r j) older f t = none_named k.forms (N9 i r j) older refl refl
 takes_lead_up k (N10 i j) older f t = absurd t
-takes_lead_up k (N11 i j) older f t = absurd t
 takes_lead_up k (N12 i r j) older f (q, e, below, is) = subst (LiftTo k.forms (N12 i r j)) (sym e) below
 
 pub same_each : {X : Type 0} (xs ys : List X) → map Some xs ≡ map Some ys → xs ≡ ys
@@ -221,7 +241,7 @@ born_by o s n r f saturated born there =
     let (older, at, gives) = saturated.state.born.born n f r there born in
     (older, at_first_places n s.state.facts r.older older at, gives)
 
-module _ (o : Ontology) (s : Saturated) (saturated : IsSaturated o s) (n : ℕ) (r : Reason) (born : slice_get s.state.births n ≡ Some r) (m : ℕ) (place : r.form ≡ Some m)
+module _ (o : Ontology) (s : Saturated) (saturated : IsSaturated o s) (n : ℕ) (r : Reason) (born : slice_get s.state.births n ≡ Some r) (m : ℕ) (place : r.form ≡ Some m) (of_form : NamesForm r.condition)
     (number : ℕ) (origin : option_map origin_in (slice_get s.normal.entries m) ≡ Some (origins.Axiom number)) where
   is_given_by_axiom : (e : Option Entry) → option_map origin_in e ≡ Some (origins.Axiom number) → is_by_axiom e ≡ true
   is_given_by_axiom None h = absurd cc
@@ -230,7 +250,7 @@ module _ (o : Ontology) (s : Saturated) (saturated : IsSaturated o s) (n : ℕ) 
   pub taken_by_axiom : (form : Form) (f : Fact) → TakesNoSame form → slice_get s.state.problem.forms m ≡ Some form → slice_get s.state.facts n ≡ Some f → IsTakenByAxiom s.state.problem s.state.facts s.normal.entries r form f
   taken_by_axiom form f free at there =
       let (older, at_older, gives) = born_by o s n r f saturated born there in
-      taken_by s.state.problem s.state.facts s.normal.entries m (is_given_by_axiom (slice_get s.normal.entries m) origin) r.older form free gives place at at_older
+      taken_by s.state.problem s.state.facts s.normal.entries m (is_given_by_axiom (slice_get s.normal.entries m) origin) r.older form free of_form gives place at at_older
 
   pub rests_there : (form : Form) (f : Fact) → TakesNoSame form → slice_get s.state.problem.forms m ≡ Some form → slice_get s.state.facts n ≡ Some f → (p : ℕ) → Contains (rests_on s.normal.entries r) p → p < length s.state.facts
   rests_there form f free at there p rests =

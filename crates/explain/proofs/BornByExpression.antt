@@ -11,15 +11,16 @@ use Rattle.explain.proofs.ByExpression.{IsOfExpression, expression_free, express
 use Rattle.explain.proofs.Within.{fact_within, form_said}
 use Rattle.explain.specs.OlderFacts.{rests_on, by_axiom, is_by_axiom, is_axiom}
 use Rattle.explain.specs.Premises.{AreShowingEach, LiftTo, taken}
+use Rattle.explain.specs.Uses.{NamesForm}
 use Rattle.explain.specs.FormRule.{expression_rule}
 use Rattle.explain.specs.Step.{LeadTo}
 use Rattle.facts.specs.Births.{Reason}
-use Rattle.facts.specs.Closure.{Problem, Gives, in_thing, in_itself, by_form, unsatisfiable, loop, handed_on, different, Concludes, HandsOn, IsLoop, condition}
+use Rattle.facts.specs.Closure.{Problem, Gives, in_thing, in_itself, by_form, unsatisfiable, loop, handed_on, different, apart, Concludes, HandsOn, IsLoop, condition}
 use Rattle.facts.specs.declared.contexts.Context.{Context}
 use Rattle.facts.specs.declared.contexts.Fact.{Fact}
 use Rattle.facts.specs.declared.contexts.Fact.TheVariants.{In, Edge}
 use Rattle.normal_forms.specs.declared.forms.Form.{Form}
-use Rattle.normal_forms.specs.declared.forms.Form.TheVariants.{N1, N2, N3, N4, N5, N6, N7, N8, N9, N10, N11, N12}
+use Rattle.normal_forms.specs.declared.forms.Form.TheVariants.{N1, N2, N3, N4, N5, N6, N7, N8, N9, N10, N12}
 use Rattle.normal_forms.specs.declared.forms.Origin.TheVariants as origins
 use Rattle.normalise.specs.Entries.{form_in, origin_in}
 use Rattle.normalise.specs.declared.entries.Entry.{Entry}
@@ -45,7 +46,6 @@ module _ (k : Problem) (entries : List Entry) (m : ℕ) (by : by_axiom entries (
   concluded_by numbers older (N8 i a) f kind c = absurd kind
   concluded_by numbers older (N9 i r j) f kind c = absurd kind
   concluded_by numbers older (N10 i j) f kind c = absurd kind
-  concluded_by numbers older (N11 i j) f kind c = absurd kind
   concluded_by numbers older (N12 i r j) f kind c = absurd kind
 
   no_loop : (x : Context) (form : Form) (f : Fact) → IsOfExpression form → IsLoop x form f → ⊥
@@ -59,7 +59,6 @@ module _ (k : Problem) (entries : List Entry) (m : ℕ) (by : by_axiom entries (
   no_loop x (N8 i a) f kind l = kind
   no_loop x (N9 i r j) f kind l = kind
   no_loop x (N10 i j) f kind l = kind
-  no_loop x (N11 i j) f kind l = kind
   no_loop x (N12 i r j) f kind l = kind
 
   -- no such form makes individuals one
@@ -69,18 +68,19 @@ module _ (k : Problem) (entries : List Entry) (m : ℕ) (by : by_axiom entries (
   same_form : {n : ℕ} {form form' : Form} → Some n ≡ Some m → slice_get k.forms n ≡ Some form' → slice_get k.forms m ≡ Some form → form' ≡ form
   same_form {n} {form} {form'} e at there = same_Some form' form (sym at ∙ ap (slice_get k.forms) (same_Some n m e) ∙ there)
 
-  given_by : {c : ℕ} {place : Option ℕ} {older : List Fact} {f : Fact} (numbers : List ℕ) (form : Form) → Gives k c place older f → place ≡ Some m → slice_get k.forms m ≡ Some form → IsOfExpression form → IsGivenBy k entries (reason_of c numbers place) form older f
-  given_by numbers form (in_thing by') e there kind = absurd (none-some m e)
-  given_by numbers form (in_itself by') e there kind = absurd (none-some m e)
-  given_by numbers form (unsatisfiable back) e there kind = absurd (none-some m e)
-  given_by {older = older} {f = f} numbers form (by_form n form' at_n c) e there kind =
+  given_by : {c : ℕ} {place : Option ℕ} {older : List Fact} {f : Fact} (numbers : List ℕ) (form : Form) → NamesForm c → Gives k c place older f → place ≡ Some m → slice_get k.forms m ≡ Some form → IsOfExpression form → IsGivenBy k entries (reason_of c numbers place) form older f
+  given_by numbers form of_form (in_thing by') e there kind = absurd (none-some m e)
+  given_by numbers form of_form (in_itself by') e there kind = absurd (none-some m e)
+  given_by numbers form of_form (unsatisfiable back) e there kind = absurd (none-some m e)
+  given_by {older = older} {f = f} numbers form of_form (by_form n form' at_n c) e there kind =
       let same = same_form e at_n there in
       subst (λ (p : Option ℕ). IsGivenBy k entries (reason_of (condition form') numbers p) form older f) (sym e)
       (subst (λ g. IsGivenBy k entries (reason_of (condition form') numbers (Some m)) g older f) same (concluded_by numbers older form' f (subst IsOfExpression (sym same) kind) c))
-  given_by {f = f} numbers form (loop x n form' at_n is by') e there kind =
+  given_by {f = f} numbers form of_form (loop x n form' at_n is by') e there kind =
       absurd (no_loop x form f kind (subst (λ g. IsLoop x g f) (same_form e at_n there) is))
-  given_by numbers form (handed_on n form' at_n hands) e there kind = absurd (no_hand form' (subst IsOfExpression (sym (same_form e at_n there)) kind) hands)
-  given_by numbers form (different n a b at_n same) e there kind = absurd (subst IsOfExpression (sym (same_form e at_n there)) kind)
+  given_by numbers form of_form (handed_on n form' at_n hands) e there kind = absurd (no_hand form' (subst IsOfExpression (sym (same_form e at_n there)) kind) hands)
+  given_by numbers form of_form (different l a b listed same) e there kind = absurd (of_form.0 refl)
+  given_by numbers form of_form (apart l a b x listed) e there kind = absurd (of_form.1 refl)
 
 -- each edge is lifted to the property of the form
 lifts : (k : Problem) (form : Form) (older : List Fact) (f : Fact) → IsOfExpression form → Concludes k form older f → LiftTo k.forms form older
@@ -99,7 +99,6 @@ lifts k (N7 r) older f kind c = absurd kind
 lifts k (N8 i a) older f kind c = absurd kind
 lifts k (N9 i r j) older f kind c = absurd kind
 lifts k (N10 i j) older f kind c = absurd kind
-lifts k (N11 i j) older f kind c = absurd kind
 lifts k (N12 i r j) older f kind c = absurd kind
 
 -- what is known of a fact that the form of an expression gave
@@ -117,14 +116,14 @@ is_by_expression e (Some entry) h = ap is_axiom (same_Some entry.origin (origins
 
 module _ (o : Ontology) (s : Saturated) (w : IsOntology o) (saturated : IsSaturated o s) (n : ℕ) (r : Reason) (born : slice_get s.state.births n ≡ Some r) (f : Fact) (there : slice_get s.state.facts n ≡ Some f) where
   -- the fact is born by the expression
-  pub born_by_expression : (m : ℕ) (e : ExprId) (form : Form) → r.form ≡ Some m → option_map origin_in (slice_get s.normal.entries m) ≡ Some (origins.Expr e) → slice_get (map form_in s.normal.entries) m ≡ Some form → IsBornByExpression o s r form f
-  born_by_expression m e form place origin at_entries =
+  pub born_by_expression : (m : ℕ) (e : ExprId) (form : Form) → r.form ≡ Some m → NamesForm r.condition → option_map origin_in (slice_get s.normal.entries m) ≡ Some (origins.Expr e) → slice_get (map form_in s.normal.entries) m ≡ Some form → IsBornByExpression o s r form f
+  born_by_expression m e form place of_form origin at_entries =
       let b = prefixes_of s.normal in
       let at = subst (λ (fs : List Form). slice_get fs m ≡ Some form) (sym saturated.forms) at_entries in
       let (g, says, given) = form_said o s.normal m form (origins.Expr e) saturated.normal at_entries origin in
       let kind = expression_kind o s.normal.asked b e form g says given in
       let (older, at_older, from) = born_by o s n r f saturated born there in
-      let is = given_by s.state.problem s.normal.entries m (is_by_expression e (slice_get s.normal.entries m) origin) r.older form from place at kind in
+      let is = given_by s.state.problem s.normal.entries m (is_by_expression e (slice_get s.normal.entries m) origin) r.older form of_form from place at kind in
       record {
         rests = is.rests;
         there = λ p member. each_there s.state.facts r.older older p at_older member;

@@ -54,7 +54,6 @@ IsOfExpression _ = ⊥
 
 pub expression_free : (form : code_form.Form) → IsOfExpression form → TakesNoSame form
 expression_free (code_form.TheVariants.N10 _ _) kind = kind
-expression_free (code_form.TheVariants.N11 _ _) kind = kind
 expression_free _ kind = tt
 
 -- what a line says of a whole class in a context, and of a prefix

@@ -17,6 +17,7 @@ use Rattle.explain.specs.FormRule.{origin_rule, stated_rule}
 use Rattle.explain.specs.OlderFacts.{rests_on}
 use Rattle.explain.specs.Premises.{LeadUpAt, ShowsTaken, TakesNoSame}
 use Rattle.explain.specs.Step.{LeadTo}
+use Rattle.explain.specs.Uses.{NamesForm}
 use Rattle.explain.proofs.Births.{rests_there, rests_lead_up}
 use Rattle.explain.proofs.BornByExpression.{born_by_expression}
 use Rattle.explain.proofs.Leading.{axiom_there, leads_to}
@@ -33,7 +34,7 @@ pub record IsLedTo (o : Ontology) (s : Saturated) (r : Reason) (m : ℕ) (form :
       → LeadsBy o s lines numbers f (origin_rule o (option_map origin_in (slice_get s.normal.entries m)) form)
 
 module _ (o : Ontology) (s : Saturated) (w : IsOntology o) (saturated : IsSaturated o s) (n : ℕ) (r : Reason) (born : slice_get s.state.births n ≡ Some r) (f : Fact) (there : slice_get s.state.facts n ≡ Some f)
-    (m : ℕ) (place : r.form ≡ Some m) (form : Form) (at_form : slice_get s.state.problem.forms m ≡ Some form) (free : TakesNoSame form) where
+    (m : ℕ) (place : r.form ≡ Some m) (of_form : NamesForm r.condition) (form : Form) (at_form : slice_get s.state.problem.forms m ≡ Some form) (free : TakesNoSame form) where
   at_entries : slice_get (map form_in s.normal.entries) m ≡ Some form
   at_entries = ap (λ (fs : List Form). slice_get fs m) (sym saturated.forms) ∙ at_form
 
@@ -41,15 +42,15 @@ module _ (o : Ontology) (s : Saturated) (w : IsOntology o) (saturated : IsSatura
   by_origin (origins.Axiom number) by =
       let (a, stated) = axiom_there o s m number saturated by in
       record {
-        there = rests_there o s saturated n r born m place number by form f free at_form there;
-        lift = rests_lead_up o s saturated n r born m place number by form f free at_form there;
+        there = rests_there o s saturated n r born m place of_form number by form f free at_form there;
+        lift = rests_lead_up o s saturated n r born m place of_form number by form f free at_form there;
         lead_to = λ lines numbers showing.
             subst (λ (x : Option Origin). LeadsBy o s lines numbers f (origin_rule o x form)) (sym by)
             (subst (λ (x : Option Axiom). LeadsBy o s lines numbers f (stated_rule x number form)) (sym stated)
-            (leads_to o s saturated n r born m place number by form at_form w a stated f there lines numbers free showing));
+            (leads_to o s saturated n r born m place of_form number by form at_form w a stated f there lines numbers free showing));
       }
   by_origin (origins.Expr e) by =
-      let from = born_by_expression o s w saturated n r born f there m e form place by at_entries in
+      let from = born_by_expression o s w saturated n r born f there m e form place of_form by at_entries in
       record {
         there = subst (λ (ms : List ℕ). (p : ℕ) → Contains ms p → p < length s.state.facts) (sym from.rests) from.there;
         lift = subst (λ (ms : List ℕ). LeadUpAt s form ms) (sym from.rests) from.lift;

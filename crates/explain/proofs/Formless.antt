@@ -22,12 +22,12 @@ use Rattle.explain.proofs.Walking.{alone}
 use Rattle.explain.proofs.Within.{fact_within}
 use Rattle.explain.specs.ContextRule.{context_rule}
 use Rattle.explain.specs.OlderFacts.{AreOlderShown, rests_on}
-use Rattle.explain.specs.Uses.{EachIsUsed, IsAmong, IsAmongThose, ShowsOlder, Uses}
+use Rattle.explain.specs.Uses.{EachIsUsed, IsAmong, IsAmongThose, NamesForm, ShowsOlder, Uses}
 use Rattle.explain.specs.LinesOfFacts.{AreShowing, steps_of}
 use Rattle.explain.specs.Step.{LeadTo, said_by, subject_in}
 use Rattle.explain.specs.Walks.{LeadsToNothing}
 use Rattle.facts.specs.Births.{Reason, numbers_of}
-use Rattle.facts.specs.Closure.{Problem, Gives, in_thing, in_itself, by_form, unsatisfiable, loop, handed_on, different, CarriesBack, IsContextBy, condition, nothing}
+use Rattle.facts.specs.Closure.{Problem, Gives, in_thing, in_itself, by_form, unsatisfiable, loop, handed_on, different, apart, CarriesBack, IsContextBy, condition, nothing}
 use Rattle.facts.specs.declared.births.Older as code_older
 use Rattle.facts.specs.declared.births.Older.TheVariants as older
 use Rattle.facts.specs.declared.births.FactId.{FactId}
@@ -37,7 +37,7 @@ use Rattle.facts.specs.declared.contexts.Fact.{Fact}
 use Rattle.facts.specs.declared.contexts.Fact.TheVariants.{In, Edge}
 use Rattle.normal_forms.specs.declared.forms.Class2.TheVariants as classes
 use Rattle.normal_forms.specs.declared.forms.Form.{Form}
-use Rattle.normal_forms.specs.declared.forms.Form.TheVariants.{N1, N2, N3, N4, N5, N6, N7, N8, N9, N10, N11, N12}
+use Rattle.normal_forms.specs.declared.forms.Form.TheVariants.{N1, N2, N3, N4, N5, N6, N7, N8, N9, N10, N12}
 use Rattle.normal_forms.specs.declared.forms.PropId2.{PropId2}
 use Rattle.number_sets.specs.Pieces.{list_at}
 use Rattle.normalise.specs.Problem.{prefixes_of}
@@ -45,14 +45,15 @@ use Rattle.normalise.specs.Problem.{prefixes_of}
 -- ---- what gave the fact
 
 -- a form that gave a fact is there
-pub gives_form : (k : Problem) {c : ℕ} {place : Option ℕ} {older : List Fact} {f : Fact} (m : ℕ) → Gives k c place older f → place ≡ Some m → (form : Form) × (slice_get k.forms m ≡ Some form)
-gives_form k m (in_thing by) e = absurd (none-some m e)
-gives_form k m (in_itself by) e = absurd (none-some m e)
-gives_form k m (unsatisfiable back) e = absurd (none-some m e)
-gives_form k m (by_form n form at c) e = (form, ap (slice_get k.forms) (sym (same_Some n m e)) ∙ at)
-gives_form k m (loop x n form at is by) e = (form, ap (slice_get k.forms) (sym (same_Some n m e)) ∙ at)
-gives_form k m (handed_on n form at hands) e = (form, ap (slice_get k.forms) (sym (same_Some n m e)) ∙ at)
-gives_form k m (different n a b at same) e = (N11 a b, ap (slice_get k.forms) (sym (same_Some n m e)) ∙ at)
+pub gives_form : (k : Problem) {c : ℕ} {place : Option ℕ} {older : List Fact} {f : Fact} (m : ℕ) → NamesForm c → Gives k c place older f → place ≡ Some m → (form : Form) × (slice_get k.forms m ≡ Some form)
+gives_form k m of_form (in_thing by) e = absurd (none-some m e)
+gives_form k m of_form (in_itself by) e = absurd (none-some m e)
+gives_form k m of_form (unsatisfiable back) e = absurd (none-some m e)
+gives_form k m of_form (by_form n form at c) e = (form, ap (slice_get k.forms) (sym (same_Some n m e)) ∙ at)
+gives_form k m of_form (loop x n form at is by) e = (form, ap (slice_get k.forms) (sym (same_Some n m e)) ∙ at)
+gives_form k m of_form (handed_on n form at hands) e = (form, ap (slice_get k.forms) (sym (same_Some n m e)) ∙ at)
+gives_form k m of_form (different l a b listed same) e = absurd (of_form.0 refl)
+gives_form k m of_form (apart l a b x listed) e = absurd (of_form.1 refl)
 
 -- an edge, and owl:Nothing at its target
 pub record CarriesNothing (older : List Fact) (f : Fact) : Type 0 where
@@ -73,7 +74,6 @@ not_eight (N7 _) e = omega arith
 not_eight (N8 _ _) e = omega arith
 not_eight (N9 _ _ _) e = omega arith
 not_eight (N10 _ _) e = omega arith
-not_eight (N11 _ _) e = omega arith
 not_eight (N12 _ _ _) e = omega arith
 
 carries_back : (older : List Fact) (f : Fact) → CarriesBack older f → CarriesNothing older f
@@ -96,7 +96,8 @@ gives_nothing k (in_itself by) e = absurd (omega arith)
 gives_nothing k (by_form n form at c) e = absurd (not_eight form e)
 gives_nothing k (loop x n form at is by) e = absurd (omega arith)
 gives_nothing k (handed_on n form at hands) e = absurd (omega arith)
-gives_nothing k (different n a b at same) e = absurd (omega arith)
+gives_nothing k (different l a b listed same) e = absurd (omega arith)
+gives_nothing k (apart l a b x listed) e = absurd (omega arith)
 gives_nothing k {older = older} {f = f} (unsatisfiable back) e = carries_back older f back
 
 -- owl:Thing, or the expression itself
@@ -120,7 +121,8 @@ gives_of_context o k (in_itself {e = e'} by) e h = (Sub (Expression e'.0) e'.0, 
 gives_of_context o k (by_form n form at c) e h = absurd (none-some n (sym e))
 gives_of_context o k (loop x n form at is by) e h = absurd (none-some n (sym e))
 gives_of_context o k (handed_on n form at hands) e h = absurd (none-some n (sym e))
-gives_of_context o k (different n a b at same) e h = absurd (none-some n (sym e))
+gives_of_context o k (different l a b listed same) e h = absurd (none-some l (sym e))
+gives_of_context o k (apart l a b x listed) e h = absurd (none-some l (sym e))
 gives_of_context o k (unsatisfiable back) e h = absurd (h refl)
 
 condition_of_context : (k : Problem) {c : ℕ} {place : Option ℕ} {older : List Fact} {f : Fact} → Gives k c place older f → place ≡ None → (c ≡ 8 → ⊥) → c ≡ 1
@@ -129,7 +131,8 @@ condition_of_context k (in_itself by) e h = refl
 condition_of_context k (by_form n form at c) e h = absurd (none-some n (sym e))
 condition_of_context k (loop x n form at is by) e h = absurd (none-some n (sym e))
 condition_of_context k (handed_on n form at hands) e h = absurd (none-some n (sym e))
-condition_of_context k (different n a b at same) e h = absurd (none-some n (sym e))
+condition_of_context k (different l a b listed same) e h = absurd (none-some l (sym e))
+condition_of_context k (apart l a b x listed) e h = absurd (none-some l (sym e))
 condition_of_context k (unsatisfiable back) e h = absurd (h refl)
 
 -- two facts give one without a form only where owl:Nothing is carried
@@ -139,7 +142,8 @@ two_carry k {older = older} (in_itself {e = e'} by) e two = absurd (not_of_two k
 two_carry k (by_form n form at c) e two = absurd (none-some n (sym e))
 two_carry k (loop x n form at is by) e two = absurd (none-some n (sym e))
 two_carry k (handed_on n form at hands) e two = absurd (none-some n (sym e))
-two_carry k (different n a b at same) e two = absurd (none-some n (sym e))
+two_carry k (different l a b listed same) e two = absurd (none-some l (sym e))
+two_carry k (apart l a b x listed) e two = absurd (none-some l (sym e))
 two_carry k (unsatisfiable back) e two = refl
 
 -- an edge is shown by a walk
@@ -161,10 +165,10 @@ two_older (older.Two x y) xs g h e = (x, y, refl)
 -- ---- of a saturation
 
 module _ (o : Ontology) (s : Saturated) (saturated : IsSaturated o s) (n : ℕ) (r : Reason) (born : slice_get s.state.births n ≡ Some r) (f : Fact) (there : slice_get s.state.facts n ≡ Some f) where
-  pub form_of_birth : (m : ℕ) → r.form ≡ Some m → (form : Form) × (slice_get s.state.problem.forms m ≡ Some form)
-  form_of_birth m place =
+  pub form_of_birth : (m : ℕ) → r.form ≡ Some m → NamesForm r.condition → (form : Form) × (slice_get s.state.problem.forms m ≡ Some form)
+  form_of_birth m place of_form =
       let (older, at, gives) = born_by o s n r f saturated born there in
-      gives_form s.state.problem m gives place
+      gives_form s.state.problem m of_form gives place
 
   pub context_leads : IsOntology o → r.form ≡ None → (r.condition ≡ 8 → ⊥) → (lines : List Line) → LeadTo o (prefixes_of s.normal) lines (context_rule f) None [] f
   context_leads w place other lines =

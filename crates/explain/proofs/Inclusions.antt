@@ -14,13 +14,13 @@ use Rattle.facts.specs.declared.births.FactId.{FactId}
 use Rattle.facts.specs.declared.births.Older as code_older
 use Rattle.facts.specs.declared.births.Older.TheVariants as older
 use Rattle.lemmas.proofs.Members.{Contains-first}
-use Rattle.facts.specs.Closure.{Problem, Concludes, Gives, in_thing, in_itself, by_form, unsatisfiable, loop, handed_on, different}
+use Rattle.facts.specs.Closure.{Problem, Concludes, Gives, in_thing, in_itself, by_form, unsatisfiable, loop, handed_on, different, apart}
 use Rattle.facts.specs.declared.contexts.Fact.{Fact}
 use Rattle.normal_forms.specs.Forms as definition
 use Rattle.normal_forms.specs.Origins.{AxiomGives}
 use Rattle.normal_forms.specs.declared.forms.Class2.{Class2}
 use Rattle.normal_forms.specs.declared.forms.Form.{Form}
-use Rattle.normal_forms.specs.declared.forms.Form.TheVariants.{N1, N2, N3, N4, N5, N6, N7, N8, N9, N10, N11, N12}
+use Rattle.normal_forms.specs.declared.forms.Form.TheVariants.{N1, N2, N3, N4, N5, N6, N7, N8, N9, N10, N12}
 use Rattle.normal_forms.specs.declared.forms.Origin.{Origin}
 use Rattle.normal_forms.specs.declared.forms.Origin.TheVariants as origins
 use Rattle.normalise.specs.Entries.{form_in, origin_in}
@@ -29,6 +29,7 @@ use Rattle.explain.specs.FormRule.{axiom_rule, inclusion_rule, origin_rule, stat
 use Rattle.explain.specs.OlderFacts.{rests_on}
 use Rattle.explain.specs.LinesOfFacts.{AreShowing}
 use Rattle.explain.specs.Premises.{AreShowingEach, taken}
+use Rattle.explain.specs.Uses.{NamesForm}
 use Rattle.explain.proofs.Births.{born_by, heads}
 use Rattle.explain.proofs.Sameness.{one_older}
 use Rattle.explain.proofs.ByForm.{IsLedTo, LeadsBy, led_to}
@@ -108,12 +109,12 @@ is_given k c place older f (by_form n (N7 _) at concludes) e m p = absurd (omega
 is_given k c place older f (by_form n (N8 _ _) at concludes) e m p = absurd (omega (arith, e))
 is_given k c place older f (by_form n (N9 _ _ _) at concludes) e m p = absurd (omega (arith, e))
 is_given k c place older f (by_form n (N10 _ _) at concludes) e m p = absurd (omega (arith, e))
-is_given k c place older f (by_form n (N11 _ _) at concludes) e m p = absurd (omega (arith, e))
 is_given k c place older f (by_form n (N12 _ _ _) at concludes) e m p = absurd (omega (arith, e))
 is_given k c place older f (unsatisfiable back) e m p = absurd (omega (arith, e))
 is_given k c place older f (loop x n form at is by) e m p = absurd (omega (arith, e))
 is_given k c place older f (handed_on n form at hands) e m p = absurd (omega (arith, e))
-is_given k c place older f (different n a b at same) e m p = absurd (omega (arith, e))
+is_given k c place older f (different l a b listed same) e m p = absurd (omega (arith, e))
+is_given k c place older f (apart l a b x listed) e m p = absurd (omega (arith, e))
 
 -- ---- the line
 
@@ -130,6 +131,9 @@ module _ (o : Ontology) (s : Saturated) (w : IsOntology o) (saturated : IsSatura
   given =
       let (older, at_older, gives) = born_by o s n r f saturated born there in
       (older, at_older, is_given s.state.problem r.condition r.form older f gives inclusion m place)
+
+  names_form : NamesForm r.condition
+  names_form = (λ e. (let bad : ⊥ = omega (arith, e, inclusion) in bad), λ e. (let bad : ⊥ = omega (arith, e, inclusion) in bad))
 
   alone : map (slice_get s.state.facts) r.older ≡ map Some (given.2.fact ∷ [])
   alone = given.1 ∙ ap (map Some) given.2.only
@@ -152,6 +156,6 @@ module _ (o : Ontology) (s : Saturated) (w : IsOntology o) (saturated : IsSatura
     pub leads_on : (lines : List Line) (numbers : List ℕ) → ((g : Fact) → slice_get s.state.facts x.0 ≡ Some g → AreShowing (prefixes_of s.normal) lines numbers g)
         → LeadsBy o s lines numbers f (inclusion_rule (option_map origin_in (slice_get s.normal.entries m)))
     leads_on lines numbers showing =
-        let led : IsLedTo o s r m (N1 given.2.lower given.2.upper) f = led_to o s w saturated n r born f there m place (N1 given.2.lower given.2.upper) given.2.at tt in
+        let led : IsLedTo o s r m (N1 given.2.lower given.2.upper) f = led_to o s w saturated n r born f there m place names_form (N1 given.2.lower given.2.upper) given.2.at tt in
         subst (LeadsBy o s lines numbers f) (rule_of_inclusion o s saturated m given.2.lower given.2.upper given.2.at)
         (led.lead_to lines numbers (λ fs at. shown_alone (prefixes_of s.normal) lines numbers s.state.facts given.2.lower given.2.upper x.0 fs (ap (map (slice_get s.state.facts)) (sym rests_on_one) ∙ at) showing))

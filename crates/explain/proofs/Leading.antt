@@ -18,6 +18,7 @@ use Rattle.explain.specs.FormRule.{axiom_rule}
 use Rattle.explain.specs.OlderFacts.{rests_on}
 use Rattle.explain.specs.Premises.{AreShowingEach, TakesNoSame, taken}
 use Rattle.explain.specs.Step.{LeadTo, said_by}
+use Rattle.explain.specs.Uses.{NamesForm}
 use Rattle.facts.specs.Births.{Reason}
 use Rattle.facts.specs.declared.contexts.Fact.{Fact}
 use Rattle.normal_forms.specs.Forms as definition
@@ -48,7 +49,7 @@ axiom_there o s m number saturated by =
     let (g, says, (a, stated, gives)) = form_said o s.normal m form (origins.Axiom number) saturated.normal at by in
     (a, stated)
 
-module _ (o : Ontology) (s : Saturated) (saturated : IsSaturated o s) (n : ℕ) (r : Reason) (born : slice_get s.state.births n ≡ Some r) (m : ℕ) (place : r.form ≡ Some m)
+module _ (o : Ontology) (s : Saturated) (saturated : IsSaturated o s) (n : ℕ) (r : Reason) (born : slice_get s.state.births n ≡ Some r) (m : ℕ) (place : r.form ≡ Some m) (of_form : NamesForm r.condition)
     (number : ℕ) (origin : option_map origin_in (slice_get s.normal.entries m) ≡ Some (origins.Axiom number)) (form : Form) (at_form : slice_get s.state.problem.forms m ≡ Some form) where
   given : (g : definition.Form) × SaysForm (prefixes_of s.normal) form g × GivenBy o s.normal.asked (origins.Axiom number) g
   given = form_said o s.normal m form (origins.Axiom number) saturated.normal (ap (λ (fs : List Form). slice_get fs m) (sym saturated.forms) ∙ at_form) origin
@@ -60,7 +61,7 @@ module _ (o : Ontology) (s : Saturated) (saturated : IsSaturated o s) (n : ℕ) 
 
     lead : Lead o (prefixes_of s.normal) s.state.problem lines numbers a (said_by f) f
     lead =
-        let t = taken_by_axiom o s saturated n r born m place number origin form f free at_form there in
+        let t = taken_by_axiom o s saturated n r born m place of_form number origin form f free at_form there in
         axiom_leads o (prefixes_of s.normal) s.state.problem lines numbers a form given.0 given.1 gives t.older f t.takes (showing t.older t.at)
 
     follows_by : (c : Conclusion) → said_by f ≡ Some c → Lead o (prefixes_of s.normal) s.state.problem lines numbers a (Some c) f → IsDerived o lines (record { conclusion = c; rule = axiom_rule a; axiom' = Some number; premises = numbers })

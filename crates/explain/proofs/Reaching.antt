@@ -1,5 +1,5 @@
 -- What the search finds is what forms lead to from a number, with the ways there.
-use Rattle.std.proofs.Common.{◌≡◌, ℕ, List, [], ◌∷◌, refl, sym, subst, arith}
+use Rattle.std.proofs.Common.{◌≡◌, ◌↔◌, ℕ, Bool, true, false, List, [], ◌∷◌, refl, sym, ◌∙◌, subst, arith}
 use Rattle.lemmas.proofs.Members.{Contains-first, Contains-one, slice_get-from_Contains}
 use Rattle.axioms.specs.declared.ids.IndId.{IndId}
 use Rattle.axioms.specs.declared.ids.PropId.{PropId}
@@ -9,6 +9,7 @@ use Rattle.normal_forms.specs.declared.forms.Form.{Form}
 use Rattle.normal_forms.specs.declared.forms.PropId2.{PropId2}
 use Rattle.normal_forms.specs.declared.forms.PropId2.TheVariants.{Property}
 use Rattle.normal_forms.specs.Properties.{IsAtOrBelow, same, step}
+use Rattle.number_sets.specs.Members.{has}
 use Rattle.number_sets.specs.Search.{AreFound, IsBounded, LeadsTo}
 use Rattle.number_sets.specs.Search as numbers
 use Rattle.explain.specs.declared.told.Told.{Told}
@@ -59,6 +60,13 @@ led_over facts.itself = itself
 led_over {forms} (facts.step h form before there link) =
     let (n, at) = slice_get-from_Contains forms form there in
     onward n h.0 (led_over before) (form, at, link)
+
+-- an individual that was not seen is not one with it
+pub not_seen : (bound : ℕ) (forms : List Form) (links : List (List Told)) (i j : IndId) (seen : List Bool) → AreTold bound (LeadsOver forms) links → ((d : ℕ) → (has seen d ≡ true) ↔ LeadsTo number target (start_of i.0 ∷ []) links d) → has seen j.0 ≡ false → AreSame forms i j → ⊥
+not_seen bound forms links i j seen told exact hidden one =
+    let h : has seen j.0 ≡ true = (exact j.0).1 (led (LeadsOver forms) bound links told i.0 (led_over one)) in
+    let bad : false ≡ true = sym hidden ∙ h in
+    cc
 
 -- what such a search found, in the list that it is read from
 pub found_in : (bound : ℕ) (forms : List Form) (links : List (List Told)) (c : ℕ) (found list : List Reached) → AreTold bound (LeadsOver forms) links → AreFound number target by (start_of c ∷ []) links found → list ≡ found → AreReached (LeadsOver forms) c list

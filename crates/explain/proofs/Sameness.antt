@@ -1,54 +1,38 @@
--- Facts that a form hands on from one of two individuals to the other, and facts of two that differ.
-use Rattle.std.proofs.Common.{◌≡◌, ℕ, ◌<◌, List, [], ◌∷◌, length, map, slice_get, option_map, Option, Some, Contains, refl, sym, ap, ◌∙◌, subst, arith}
-use Rattle.std.proofs.lemmas.List.Elements.{All-contains}
+-- Facts that a form hands on from one of two individuals to the other.
+use Rattle.std.proofs.Common.{◌≡◌, ℕ, ◌<◌, List, [], ◌∷◌, length, map, slice_get, Option, Some, Contains, refl, sym, ap, ◌∙◌, subst, arith}
 use Rattle.std.proofs.lemmas.Option.{none-some, same_Some, slice_get_within}
 use Rattle.lemmas.proofs.Members.{Contains-first, Contains-from_slice_get}
-use Rattle.axioms.specs.Ontology.{Ontology, Axiom, DifferentIndividuals, AtTwoPlaces}
-use Rattle.axioms.specs.View.{at_number}
-use Rattle.axioms.specs.WellFormedness.{AreOperands, IsOntology}
+use Rattle.axioms.specs.Ontology.{Ontology}
+use Rattle.axioms.specs.WellFormedness.{IsOntology}
 use Rattle.axioms.specs.declared.ids.IndId.{IndId}
-use Rattle.certificate.specs.Certificate.{Conclusion, Sub, Same, Line}
-use Rattle.certificate.specs.Certificate as line
-use Rattle.certificate.specs.declared.line.Rule.TheVariants.{K20}
-use Rattle.cert_check.specs.Lines.{Follows}
-use Rattle.closure.specs.Denotations.{Prefixes, SaysForm, n11, SaysFact, edge}
+use Rattle.certificate.specs.Certificate.{Line}
+use Rattle.closure.specs.Denotations.{Prefixes, SaysFact, edge}
 use Rattle.closure.specs.Closure as definition
 use Rattle.engine.specs.Saturations.{Saturated, IsSaturated}
 use Rattle.exactness.specs.Derivability.{FactIsDerivable}
 use Rattle.exactness.proofs.Derivable.{conclusions}
 use Rattle.exactness.proofs.Facts.{fact_derivable}
-use Rattle.exactness.proofs.Rules.{axiom_within}
 use Rattle.explain.proofs.Below.{rests_below}
 use Rattle.explain.proofs.Births.{born_by, heads}
-use Rattle.explain.proofs.ByForm.{LeadsBy}
 use Rattle.explain.proofs.Conclusions.{edge_shown}
 use Rattle.explain.proofs.Exchanging.{numbers_long, walk_long}
-use Rattle.explain.proofs.SameLines.{axiom_gave, by_an_axiom, different_given, in_axioms}
-use Rattle.explain.proofs.Within.{axiom_number_within, fact_within}
 use Rattle.explain.specs.Exchanges.{HandsOnBy, HasEdges}
-use Rattle.explain.specs.FormRule.{origin_rule, stated_rule}
 use Rattle.explain.specs.LinesOfFacts.{AreShowing, steps_of}
 use Rattle.explain.specs.OlderFacts.{rests_on}
-use Rattle.explain.specs.SameLines.{SaysSame}
-use Rattle.explain.specs.Step.{said_by, subject_in}
+use Rattle.explain.specs.Step.{subject_in}
+use Rattle.explain.specs.Uses.{NamesForm}
 use Rattle.facts.specs.Births.{Reason, numbers_of}
-use Rattle.facts.specs.Closure.{Problem, Gives, in_thing, in_itself, by_form, unsatisfiable, loop, handed_on, different, AreSame, Concludes, HandsOn, IsLoop, nothing}
+use Rattle.facts.specs.Closure.{Problem, Gives, in_thing, in_itself, by_form, unsatisfiable, loop, handed_on, different, apart, Concludes, HandsOn, IsLoop}
 use Rattle.facts.specs.declared.births.Older as code_older
 use Rattle.facts.specs.declared.births.Older.TheVariants as older
 use Rattle.facts.specs.declared.births.FactId.{FactId}
 use Rattle.facts.specs.declared.contexts.Context.{Context}
-use Rattle.facts.specs.declared.contexts.Context.TheVariants.{Individual}
 use Rattle.facts.specs.declared.contexts.Fact.{Fact}
 use Rattle.facts.specs.declared.contexts.Fact.TheVariants.{In, Edge}
-use Rattle.normal_forms.specs.Forms as form_definition
 use Rattle.normal_forms.specs.Forms.{Property2, Property, Steps}
-use Rattle.normal_forms.specs.Origins.{AxiomGives}
 use Rattle.normal_forms.specs.declared.forms.Form.{Form}
-use Rattle.normal_forms.specs.declared.forms.Form.TheVariants.{N10, N11}
-use Rattle.normal_forms.specs.declared.forms.Origin.{Origin}
+use Rattle.normal_forms.specs.declared.forms.Form.TheVariants.{N10}
 use Rattle.normal_forms.specs.declared.forms.PropId2.{PropId2}
-use Rattle.normal_forms.specs.declared.forms.Origin.TheVariants as origins
-use Rattle.normalise.specs.Entries.{origin_in}
 use Rattle.normalise.specs.Problem.{prefixes_of}
 
 -- ---- what gave such facts
@@ -62,17 +46,6 @@ nothing_by_same k i j (g ∷ []) f c = c
 nothing_by_same k i j (g ∷ h ∷ []) f c = c
 nothing_by_same k i j (g ∷ h ∷ e ∷ more) f c = c
 
-nothing_by_different : (k : Problem) (i j : IndId) (older : List Fact) (f : Fact) → Concludes k (N11 i j) older f → ⊥
-nothing_by_different k i j [] f c = c
-nothing_by_different k i j (g ∷ []) f c = c
-nothing_by_different k i j (g ∷ h ∷ []) f c = c
-nothing_by_different k i j (g ∷ h ∷ e ∷ more) f c = c
-
-not_handed : (i j : IndId) {g f : Fact} → HandsOn (N11 i j) g f → ⊥
-not_handed i j (HandsOn.class link) = link
-not_handed i j (HandsOn.source link) = link
-not_handed i j (HandsOn.target link) = link
-
 -- the one fact that is handed on
 pub record IsHandedOn (form : Form) (c : ℕ) (older : List Fact) (f : Fact) : Type 0 where
   pub fact : Fact
@@ -80,39 +53,15 @@ pub record IsHandedOn (form : Form) (c : ℕ) (older : List Fact) (f : Fact) : T
   pub hands : HandsOn form fact f
   pub eleven : c ≡ 11
 
-gives_same : (k : Problem) {c : ℕ} {place : Option ℕ} {older : List Fact} {f : Fact} (m : ℕ) (i j : IndId) → Gives k c place older f → place ≡ Some m → slice_get k.forms m ≡ Some (N10 i j) → IsHandedOn (N10 i j) c older f
-gives_same k m i j (in_thing by) e there = absurd (none-some m e)
-gives_same k m i j (in_itself by) e there = absurd (none-some m e)
-gives_same k m i j (unsatisfiable back) e there = absurd (none-some m e)
-gives_same k {older = older} {f = f} m i j (by_form n form at c) e there = absurd (nothing_by_same k i j older f (subst (λ x. Concludes k x older f) (same_form k.forms e at there) c))
-gives_same k {f = f} m i j (loop x n form at is by) e there = absurd (subst (λ y. IsLoop x y f) (same_form k.forms e at there) is)
-gives_same k {f = f} m i j (handed_on {g = g} n form at hands) e there = record { fact = g; only = refl; hands = subst (λ x. HandsOn x g f) (same_form k.forms e at there) hands; eleven = refl }
-gives_same k m i j (different n a b at same) e there = absurd (let is : N11 a b ≡ N10 i j = same_form k.forms e at there in cc)
-
--- the two are one
-pub record IsOfDifferent (k : Problem) (i j : IndId) (c : ℕ) (older : List Fact) (f : Fact) : Type 0 where
-  pub same : AreSame k.forms i j
-  pub none : older ≡ []
-  pub is : f ≡ In nothing (Individual i)
-  pub twelve : c ≡ 12
-
-gives_different : (k : Problem) {c : ℕ} {place : Option ℕ} {older : List Fact} {f : Fact} (m : ℕ) (i j : IndId) → Gives k c place older f → place ≡ Some m → slice_get k.forms m ≡ Some (N11 i j) → IsOfDifferent k i j c older f
-gives_different k m i j (in_thing by) e there = absurd (none-some m e)
-gives_different k m i j (in_itself by) e there = absurd (none-some m e)
-gives_different k m i j (unsatisfiable back) e there = absurd (none-some m e)
-gives_different k {older = older} {f = f} m i j (by_form n form at c) e there = absurd (nothing_by_different k i j older f (subst (λ x. Concludes k x older f) (same_form k.forms e at there) c))
-gives_different k {f = f} m i j (loop x n form at is by) e there = absurd (subst (λ y. IsLoop x y f) (same_form k.forms e at there) is)
-gives_different k {f = f} m i j (handed_on {g = g} n form at hands) e there = absurd (not_handed i j (subst (λ x. HandsOn x g f) (same_form k.forms e at there) hands))
-gives_different k m i j (different n a b at same) e there =
-    let is : N11 a b ≡ N11 i j = same_form k.forms e at there in
-    let first : a ≡ i = cc in
-    let second : b ≡ j = cc in
-    record {
-      same = subst (λ x. AreSame k.forms x j) first (subst (AreSame k.forms a) second same);
-      none = refl;
-      is = ap (λ x. In nothing (Individual x)) first;
-      twelve = refl;
-    }
+gives_same : (k : Problem) {c : ℕ} {place : Option ℕ} {older : List Fact} {f : Fact} (m : ℕ) (i j : IndId) → NamesForm c → Gives k c place older f → place ≡ Some m → slice_get k.forms m ≡ Some (N10 i j) → IsHandedOn (N10 i j) c older f
+gives_same k m i j of_form (in_thing by) e there = absurd (none-some m e)
+gives_same k m i j of_form (in_itself by) e there = absurd (none-some m e)
+gives_same k m i j of_form (unsatisfiable back) e there = absurd (none-some m e)
+gives_same k {older = older} {f = f} m i j of_form (by_form n form at c) e there = absurd (nothing_by_same k i j older f (subst (λ x. Concludes k x older f) (same_form k.forms e at there) c))
+gives_same k {f = f} m i j of_form (loop x n form at is by) e there = absurd (subst (λ y. IsLoop x y f) (same_form k.forms e at there) is)
+gives_same k {f = f} m i j of_form (handed_on {g = g} n form at hands) e there = record { fact = g; only = refl; hands = subst (λ x. HandsOn x g f) (same_form k.forms e at there) hands; eleven = refl }
+gives_same k m i j of_form (different l a b listed same) e there = absurd (of_form.0 refl)
+gives_same k m i j of_form (apart l a b x listed) e there = absurd (of_form.1 refl)
 
 -- ---- of a saturation
 
@@ -122,17 +71,13 @@ one_older older.None xs g h = absurd cc
 one_older (older.One x) xs g h = (x, refl, heads h)
 one_older (older.Two x y) xs g h = absurd cc
 
-none_older : {X : Type 0} (xs : List X) (ns : List ℕ) → map (slice_get xs) ns ≡ map Some [] → ns ≡ []
-none_older xs [] e = refl
-none_older xs (n ∷ ns) e = absurd cc
-
 -- an edge of a property has one step, and a prefix has two or more
 steps_there : (o : Ontology) (x y : definition.Context) (r : Property2) → FactIsDerivable o (definition.Edge x r y) → 0 < length (steps_of r)
 steps_there o x y (Property p) derivable = omega arith
 steps_there o x y (Steps rs) derivable = derivable.2.0
 
 module _ (o : Ontology) (s : Saturated) (saturated : IsSaturated o s) (n : ℕ) (r : Reason) (born : slice_get s.state.births n ≡ Some r) (f : Fact) (there : slice_get s.state.facts n ≡ Some f)
-    (m : ℕ) (place : r.form ≡ Some m) (i j : IndId) where
+    (m : ℕ) (place : r.form ≡ Some m) (of_form : NamesForm r.condition) (i j : IndId) where
   -- what is known of a fact that is handed on
   pub record IsBornOfSame : Type 0 where
     pub fact : Fact
@@ -143,7 +88,7 @@ module _ (o : Ontology) (s : Saturated) (saturated : IsSaturated o s) (n : ℕ) 
   pub born_of_same : slice_get s.state.problem.forms m ≡ Some (N10 i j) → IsBornOfSame
   born_of_same at =
       let (older, at_older, gives) = born_by o s n r f saturated born there in
-      let h = gives_same s.state.problem m i j gives place at in
+      let h = gives_same s.state.problem m i j of_form gives place at in
       record {
         fact = h.fact;
         older = at_older ∙ ap (map Some) h.only;
@@ -151,25 +96,10 @@ module _ (o : Ontology) (s : Saturated) (saturated : IsSaturated o s) (n : ℕ) 
         rests = subst (λ (c : ℕ). rests_on s.normal.entries (record r { condition = c }) ≡ r.older) (sym h.eleven) refl;
       }
 
-  pub record IsBornOfDifferent : Type 0 where
-    pub same : AreSame s.state.problem.forms i j
-    pub is : f ≡ In nothing (Individual i)
-    pub rests : rests_on s.normal.entries r ≡ []
-
-  pub born_of_different : slice_get s.state.problem.forms m ≡ Some (N11 i j) → IsBornOfDifferent
-  born_of_different at =
-      let (older, at_older, gives) = born_by o s n r f saturated born there in
-      let h = gives_different s.state.problem m i j gives place at in
-      record {
-        same = h.same;
-        is = h.is;
-        rests = subst (λ (c : ℕ). rests_on s.normal.entries (record r { condition = c }) ≡ []) (sym h.twelve) (none_older s.state.facts r.older (at_older ∙ ap (map Some) h.none));
-      }
-
 module _ (o : Ontology) (s : Saturated) (saturated : IsSaturated o s) (n : ℕ) (r : Reason) (born : slice_get s.state.births n ≡ Some r) (f : Fact) (there : slice_get s.state.facts n ≡ Some f)
-    (m : ℕ) (place : r.form ≡ Some m) (i j : IndId) (at : slice_get s.state.problem.forms m ≡ Some (N10 i j)) (o' : code_older.Older) (older_is : numbers_of o' ≡ r.older) where
-  pub handed : IsBornOfSame o s saturated n r born f there m place i j
-  handed = born_of_same o s saturated n r born f there m place i j at
+    (m : ℕ) (place : r.form ≡ Some m) (of_form : NamesForm r.condition) (i j : IndId) (at : slice_get s.state.problem.forms m ≡ Some (N10 i j)) (o' : code_older.Older) (older_is : numbers_of o' ≡ r.older) where
+  pub handed : IsBornOfSame o s saturated n r born f there m place of_form i j
+  handed = born_of_same o s saturated n r born f there m place of_form i j at
 
   -- one older fact is told
   pub one_told : ((x : FactId) → o' ≡ older.One x → ⊥) → ⊥
@@ -217,57 +147,3 @@ has_edges o s w saturated n (In a x) there lines numbers shown = tt
 has_edges o s w saturated n (Edge x p y) there lines numbers shown =
     let (g, says, fact) = saturated.facts.each (Edge x p y) (Contains-from_slice_get s.state.facts n (Edge x p y) there) in
     has_edges_said o says (fact_derivable o s.normal.asked w fact) shown
-
--- ---- individuals that differ
-
-said_different : {b : Prefixes} {i j : IndId} {g : form_definition.Form} (a : Axiom) → SaysForm b (N11 i j) g → AxiomGives a g → (xs : List ℕ) × (a ≡ DifferentIndividuals xs) × AtTwoPlaces xs i.0 j.0
-said_different {i = i} {j = j} a (n11 {i' = p} {j' = q} says_i says_j) gives =
-    let (xs, is, places) = different_given a p q gives in
-    (xs, is, subst (λ x. AtTwoPlaces xs x j.0) (sym says_i) (subst (AtTwoPlaces xs p) (sym says_j) places))
-
-module _ (o : Ontology) (s : Saturated) (w : IsOntology o) (saturated : IsSaturated o s) (m : ℕ) (i j : IndId) (at : slice_get s.state.problem.forms m ≡ Some (N11 i j)) where
-  -- the axiom that says that they differ
-  pub record IsOfAxiom : Type 0 where
-    pub number : ℕ
-    pub by : option_map origin_in (slice_get s.normal.entries m) ≡ Some (origins.Axiom number)
-    pub operands : List ℕ
-    pub stated : at_number o.axioms number ≡ Some (DifferentIndividuals operands)
-    pub places : AtTwoPlaces operands i.0 j.0
-
-  pub of_axiom : IsOfAxiom
-  of_axiom =
-      let (number, by) = by_an_axiom o s saturated m (N11 i j) at (λ kind. kind) in
-      let (g, says, (a, stated, gives)) = axiom_gave o s saturated m (N11 i j) number at by in
-      let (xs, is, places) = said_different a says gives in
-      record { number = number; by = by; operands = xs; stated = stated ∙ ap Some is; places = places }
-
-  operands_of_axiom : AreOperands (length o.names.individuals) of_axiom.operands
-  operands_of_axiom = axiom_within o w (DifferentIndividuals of_axiom.operands) (in_axioms o.axioms of_axiom.number (DifferentIndividuals of_axiom.operands) of_axiom.stated)
-
-  pub first_within : i.0 < length o.names.individuals
-  first_within =
-      let (p, q, apart, at_p, at_q) = of_axiom.places in
-      All-contains (λ x. x < length o.names.individuals) of_axiom.operands i.0 operands_of_axiom.within (Contains-from_slice_get of_axiom.operands p i.0 at_p)
-
-  pub two : i ≡ j → ⊥
-  two same =
-      let (p, q, apart, at_p, at_q) = of_axiom.places in
-      apart (operands_of_axiom.distinct p q i.0 at_p (at_q ∙ ap Some (sym (ap (λ (k : IndId). k.0) same))))
-
-  -- the line that they are one leads to the fact
-  pub different_leads : (n : ℕ) (f : Fact) → slice_get s.state.facts n ≡ Some f → f ≡ In nothing (Individual i) → (lines : List Line) (same : ℕ) → SaysSame lines same i j
-      → LeadsBy o s lines (same ∷ []) f (origin_rule o (option_map origin_in (slice_get s.normal.entries m)) (N11 i j))
-  different_leads n f there is lines same says =
-      subst (λ (x : Option Origin). LeadsBy o s lines (same ∷ []) f (origin_rule o x (N11 i j))) (sym of_axiom.by)
-      (subst (λ (x : Option Axiom). LeadsBy o s lines (same ∷ []) f (stated_rule x of_axiom.number (N11 i j))) (sym of_axiom.stated) (record {
-        line = λ c said. record {
-          within = record { conclusion = fact_within o s n f c w saturated there said; axiom' = axiom_number_within o of_axiom.number (DifferentIndividuals of_axiom.operands) of_axiom.stated };
-          premises = Same i.0 j.0 ∷ [];
-          premises_at = rw says refl;
-          follows = subst (λ x. Follows o K20 (Same i.0 j.0 ∷ []) x c) (sym of_axiom.stated) (subst (Follows o K20 (Same i.0 j.0 ∷ []) (Some (DifferentIndividuals of_axiom.operands))) (says_it c said) (of_axiom.places, refl, refl));
-        };
-        prefix = λ said. absurd (none-some (Sub (line.Individual i.0) 1) (sym said ∙ ap said_by is));
-      }))
-    where
-      says_it : (c : Conclusion) → said_by f ≡ Some c → Sub (line.Individual i.0) 1 ≡ c
-      says_it c said = same_Some (Sub (line.Individual i.0) 1) c (sym (ap said_by is) ∙ said)

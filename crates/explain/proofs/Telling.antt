@@ -1,16 +1,13 @@
 -- Lists of what forms lead to, one form after another.
-use Rattle.std.proofs.Common.{◌≡◌, ◌↔◌, ◌⊎◌, ℕ, ◌+◌, ◌<◌, ◌≤◌, inl, inr, List, [], ◌∷◌, ◌++◌, length, Contains, slice_get, Some, refl, sym, ap, ap₂, ◌∙◌, subst, arith}
+use Rattle.std.proofs.Common.{◌≡◌, ◌↔◌, ◌⊎◌, ℕ, ◌+◌, ◌<◌, inl, inr, List, [], ◌∷◌, ◌++◌, length, Contains, slice_get, Some, refl, sym, ap, ap₂, ◌∙◌, subst, arith}
 use Rattle.std.specs.Prelude.{slice_set}
-use Rattle.std.proofs.lemmas.Bool.{cases_eq, cases_lt}
+use Rattle.std.proofs.lemmas.Bool.{cases_eq}
 use Rattle.std.proofs.lemmas.Option.{same_Some}
-use Rattle.axioms.specs.declared.ids.ExprId.{ExprId}
 use Rattle.axioms.specs.declared.ids.IndId.{IndId}
 use Rattle.axioms.specs.declared.ids.PropId.{PropId}
 use Rattle.facts.specs.Closure.{Links}
 use Rattle.normal_forms.specs.declared.forms.Form.{Form}
 use Rattle.normal_forms.specs.declared.forms.Form.TheVariants.{N5, N10}
-use Rattle.normal_forms.specs.Pairs.{StandFrom, disjoint_form}
-use Rattle.normal_forms.proofs.Pairs.{disjoint_at}
 use Rattle.number_sets.specs.Pieces.{list_at}
 use Rattle.number_sets.proofs.Members.{one_more_item}
 use Rattle.explain.specs.declared.told.Told.{Told}
@@ -33,13 +30,6 @@ told_same : (Leads : ℕ → ℕ → ℕ → Type 0) (k : ℕ) (lists : List (Li
 told_same Leads k lists none before =
     told_more Leads k lists lists before
     (λ r t. (λ c. inl c, λ h. elim h [ inl c ↦ c | inr e ↦ absurd (none r t.to (subst (λ n. Leads n r t.to) e.0 e.1)) ]))
-
--- a stretch of forms that lead to nothing
-told_skip : (Leads : ℕ → ℕ → ℕ → Type 0) (m n : ℕ) (lists : List (List Told)) → m ≤ n → ((k r s : ℕ) → m ≤ k → k < n → Leads k r s → ⊥) → AreToldBefore Leads m lists → AreToldBefore Leads n lists
-told_skip Leads m n lists more none before r t = (
-  λ c. let h = (before r t).0 c in (omega (arith, h.0, more), h.1),
-  λ h. elim (cases_lt t.form m) [ inl l ↦ (before r t).1 (l, h.1) | inr l ↦ absurd (none t.form r t.to l h.0 h.1) ],
-)
 
 abbrev with_item : (lists : List (List Told)) (r : ℕ) (x : Told) → List (List Told)
 with_item lists r x = slice_set lists r (list_at lists r ++ x ∷ [])
@@ -129,23 +119,3 @@ module _ (forms : List Form) (k : ℕ) where
       no_link : (f : Form) (i j : IndId) → ((a b : IndId) → f ≡ N10 a b → ⊥) → Links f i j → ⊥
       no_link (N10 a b) i j other link = other a b refl
       no_link _ i j other link = link
-
--- ---- classes of which each two have nothing in common
-
-module _ (forms : List Form) (number : ℕ) (classes : List ExprId) (end : ℕ) (stands : StandFrom forms number classes end) where
-  pub told_no_up_between : (lists : List (List Told)) → AreToldBefore (LeadsUp forms) number lists → AreToldBefore (LeadsUp forms) end lists
-  told_no_up_between lists before = told_skip (LeadsUp forms) number end lists (omega (arith, stands.some)) none before
-    where
-      none : (k r s : ℕ) → number ≤ k → k < end → LeadsUp forms k r s → ⊥
-      none k r s low high leads =
-          let (a, b, is) = disjoint_at stands k (N5 (as_id r) (as_id s)) low high leads in
-          let apart : N5 (as_id r) (as_id s) ≡ disjoint_form a b = is in
-          cc
-
-  pub told_no_over_between : (lists : List (List Told)) → AreToldBefore (LeadsOver forms) number lists → AreToldBefore (LeadsOver forms) end lists
-  told_no_over_between lists before = told_skip (LeadsOver forms) number end lists (omega (arith, stands.some)) none before
-    where
-      none : (k i j : ℕ) → number ≤ k → k < end → LeadsOver forms k i j → ⊥
-      none k i j low high (form, at, link) =
-          let (a, b, is) = disjoint_at stands k form low high at in
-          subst (λ f. Links f (as_individual i) (as_individual j)) is link

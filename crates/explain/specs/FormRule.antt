@@ -10,7 +10,7 @@ use Rattle.normal_forms.specs.declared.forms.Origin.{Origin}
 use Rattle.normal_forms.specs.declared.forms.Origin.TheVariants as origins
 
 -- the rule for a line of a form that the axiom gave: of individuals that are one it is not the line of a fact; a plain subproperty has
--- no such form
+-- no such form, and individuals that differ have a list
 abbrev pub axiom_rule : Axiom → Rule
 axiom_rule (SubClass _ _) = K4
 axiom_rule (EquivalentClasses _) = K4

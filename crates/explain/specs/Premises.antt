@@ -7,7 +7,7 @@ use Rattle.explain.specs.LinesOfFacts.{AreShowing}
 use Rattle.facts.specs.declared.contexts.Fact.{Fact}
 use Rattle.facts.specs.declared.contexts.Fact.TheVariants.{In, Edge}
 use Rattle.normal_forms.specs.declared.forms.Form.{Form}
-use Rattle.normal_forms.specs.declared.forms.Form.TheVariants.{N4, N6, N10, N11, N12}
+use Rattle.normal_forms.specs.declared.forms.Form.TheVariants.{N4, N6, N10, N12}
 use Rattle.normal_forms.specs.declared.forms.PropId2.{PropId2}
 use Rattle.normal_forms.specs.declared.forms.PropId2.TheVariants.{Property}
 use Rattle.normal_forms.specs.Properties.{IsAtOrBelow}
@@ -16,7 +16,6 @@ use Rattle.normalise.specs.Problem.{prefixes_of}
 -- the line of what such a form gives takes no line that individuals are one
 abbrev pub TakesNoSame : Form → Type 0
 TakesNoSame (N10 _ _) = ⊥
-TakesNoSame (N11 _ _) = ⊥
 TakesNoSame _ = Unit {0}
 
 -- the property that the form names for the first fact that it takes, and for the second, where that is an edge

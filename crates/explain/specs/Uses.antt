@@ -23,9 +23,13 @@ IsAmongThose shown facts n = (m : ℕ) × Contains facts m × IsAmong (list_at s
 abbrev pub Uses : List Line → List Line → (ℕ → Type 0) → List ℕ → Type 0
 Uses old new Given numbers = (n : ℕ) → n < length new → (length old ≤ n) ⊎ Given n → IsPremise new n ⊎ IsAmong numbers n
 
--- the form of that number gave the n-th fact
-abbrev pub IsBornBy : Saturated → ℕ → ℕ → Type 0
-IsBornBy s n form = (r : Reason) × (slice_get s.state.births n ≡ Some r) × (r.form ≡ Some form)
+-- the number that a birth by such a condition names, if any, is that of a form, and not that of a list of what is apart
+abbrev pub NamesForm : ℕ → Type 0
+NamesForm condition = (condition ≡ 12 → ⊥) × (condition ≡ 14 → ⊥)
+
+-- the form or list of that number gave the n-th fact, by that condition
+abbrev pub IsBornBy : Saturated → ℕ → ℕ → ℕ → Type 0
+IsBornBy s n condition number = (r : Reason) × (slice_get s.state.births n ≡ Some r) × (r.condition ≡ condition) × (r.form ≡ Some number)
 
 -- the line of the n-th fact rests on the m-th
 abbrev pub RestsOn : Saturated → ℕ → ℕ → Type 0

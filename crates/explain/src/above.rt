@@ -33,15 +33,8 @@ pub(crate) fn properties_of_edges(
     forms: &FormList,
 ) -> Result<Row, Memory> {
     let mut marked = Row::new(alloc, properties)?;
-    let mut number = 0;
-    while number < forms.len() {
-        match forms.disjoint_from(number) {
-            Some(disjoint) => number = disjoint.end,
-            None => {
-                mark_edges(&mut marked, forms.at(number));
-                number += 1;
-            }
-        }
+    for number in 0..forms.len() {
+        mark_edges(&mut marked, forms.at(number));
     }
     Ok(marked)
 }

@@ -1,33 +1,48 @@
 //! How forms make two individuals one.
+ghost use Rattle.axioms.specs.declared.ids.IndId.{IndId as Ind};
 ghost use Rattle.explain.specs.Paths.{IsChain};
 ghost use Rattle.explain.specs.Search.{AreLeadsWithin, LeadsOver};
 ghost use Rattle.facts.specs.Closure.{AreSame};
-ghost use Rattle.std.specs.Prelude.{◌≤◌, ◌<◌, ◌^◌, IfOk, MatchOption};
+ghost use Rattle.number_sets.specs.Members.{has};
+ghost use Rattle.std.specs.Prelude.{◌≡◌, ◌≤◌, ◌<◌, ◌^◌, Contains, IfOk, MatchOption, false, true};
 
 use crate::reached::Reached;
 use crate::told::all_links;
 use crate::walk::{place_of, walk};
 use axioms::{IndId, Memory};
 use normal_forms::FormList;
-use number_sets::NumberSearch;
+use number_sets::{EpochSet, NumberSearch};
 use std::alloc::Global;
 
-/// The numbers of forms that make the one individual one with the other, each from where the one before it ends; `None` where none do.
+// The first of these individuals that was seen.
+fn first_seen(seen: &EpochSet, individuals: &[IndId]) -> Option<IndId>
+    ensures { MatchOption result ((i : Ind) → Contains individuals.now i → has seen.now i.0 ≡ false) (λ i. Contains individuals.now i × (has seen.now i.0 ≡ true)) }
+{
+    for individual in individuals {
+        if seen.contains(individual.index()) {
+            return Some(*individual);
+        }
+    }
+    None
+}
+
+/// The numbers of forms that make the individual one with the first of the others that is one with it, each from where the one before
+/// it ends; `None` where none do.
 ///
 /// # Errors
 ///
 /// `Memory` where memory was refused, or there are more than 2^32 - 1 forms.
-pub(crate) fn chain_between(
+pub(crate) fn chain_to_one(
     alloc: Global,
     individuals: usize,
     forms: &FormList,
     first: IndId,
-    last: IndId,
+    others: &[IndId],
 ) -> Result<Option<Vec<u32>>, Memory>
     requires numbers { individuals ≤ 2 ^ 32 }
     requires within { AreLeadsWithin individuals (LeadsOver forms.now) }
     requires there { first.0 < individuals }
-    ensures { IfOk result (λ found. MatchOption found (AreSame forms.now first last → ⊥) (λ v. IsChain forms.now first v.items last)) }
+    ensures { IfOk result (λ found. MatchOption found ((i : Ind) → Contains others.now i → AreSame forms.now first i → ⊥) (λ v. (i : Ind) × Contains others.now i × IsChain forms.now first v.items i)) }
 {
     if forms.len() > u32::MAX as usize {
         return Err(Memory);
@@ -39,8 +54,12 @@ pub(crate) fn chain_between(
         way: None,
     };
     search.run(&links, &[start])?;
-    match place_of(&search.found, last.0) {
-        None => Ok(None),
-        Some(place) => Ok(Some(walk(alloc, &search.found, place)?)),
-    }
+    let Some(last) = first_seen(&search.seen, others) else {
+        return Ok(None);
+    };
+    let Some(place) = place_of(&search.found, last.0) else {
+        // What was seen was found.
+        unreachable!()
+    };
+    Ok(Some(walk(alloc, &search.found, place)?))
 }

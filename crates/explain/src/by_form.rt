@@ -6,29 +6,27 @@ ghost use Rattle.engine.specs.Saturations.{IsSaturated};
 ghost use Rattle.explain.specs.FormRule.{axiom_rule, expression_rule, inclusion_rule, origin_rule, stated_rule};
 ghost use Rattle.explain.specs.OlderFacts.{AreOlderShown};
 ghost use Rattle.explain.specs.Premises.{TakesNoSame};
-ghost use Rattle.explain.specs.Uses.{EachIsUsed, IsAmong, IsBornBy, Uses};
+ghost use Rattle.explain.specs.Uses.{EachIsUsed, NamesForm};
 ghost use Rattle.explain.specs.LinesOfFacts.{Lengthens, ShowsFact};
 ghost use Rattle.facts.specs.Births.{reason};
-ghost use Rattle.normal_forms.specs.declared.forms.Form.TheVariants.{N10, N11};
+ghost use Rattle.normal_forms.specs.declared.forms.Form.TheVariants.{N10};
 ghost use Rattle.normalise.specs.Entries.{origin_in};
-ghost use Rattle.std.specs.Prelude.{◌≡◌, ◌<◌, [], IfOk, OnOk, Some, length, option_map, slice_get};
+ghost use Rattle.std.specs.Prelude.{◌≡◌, ◌<◌, IfOk, OnOk, Some, length, option_map, slice_get};
 
+use crate::apart::{shown_by_different, shown_by_disjoint};
 use crate::basis::Basis;
-use crate::between::chain_between;
 use crate::derivation::Derivation;
 use crate::exchange::handed_on;
 use crate::line::{concluded, fact_of};
 use crate::lines_by_fact::{LineNumbers, LinesByFact};
 use crate::older::rests_on;
 use crate::premises::premises;
-use crate::same::same_along;
 use crate::sink::LineSink;
-use axioms::{Axiom, IndId, Memory, Ontology};
+use axioms::{Axiom, Memory, Ontology};
 use certificate::Rule;
 use facts::{Birth, FactId, Older};
 use normal_forms::{Form, Origin};
 use normalise::Normal;
-use smallvec::SmallVec;
 
 // The rule for a line of a form that the axiom gave.
 fn axiom_rule(stated: &Axiom) -> Rule
@@ -153,6 +151,7 @@ fn shown_by_facts<L: LineSink>(
     requires form { (reason birth.now).form ≡ Some form }
     requires step { slice_get basis.now.saturation.now.state.problem.forms form ≡ Some step.now }
     requires facts { TakesNoSame step.now }
+    requires of_form { NamesForm (reason birth.now).condition }
     ensures derivation { OnOk result (IsDerivation basis.now.ontology.now derivation.new) }
     ensures longer { OnOk result (Lengthens derivation.old derivation.new) }
     ensures shown { IfOk result (λ numbers. ShowsFact basis.now.saturation.now derivation.new fact.0 numbers.items) }
@@ -184,6 +183,7 @@ fn shown_by_same<L: LineSink>(
     requires birth { slice_get basis.now.saturation.now.state.births fact.0 ≡ Some (reason birth.now) }
     requires form { (reason birth.now).form ≡ Some form }
     requires same { (i : Ind) × (j : Ind) × (slice_get basis.now.saturation.now.state.problem.forms form ≡ Some (N10 i j)) }
+    requires of_form { NamesForm (reason birth.now).condition }
     ensures derivation { OnOk result (IsDerivation basis.now.ontology.now derivation.new) }
     ensures longer { OnOk result (Lengthens derivation.old derivation.new) }
     ensures shown { IfOk result (λ numbers. ShowsFact basis.now.saturation.now derivation.new fact.0 numbers.items) }
@@ -201,55 +201,25 @@ fn shown_by_same<L: LineSink>(
     Ok(numbers)
 }
 
-// What a form led to by which two individuals differ that are one: adds the line of the fact, and gives its number.
-fn shown_by_different<L: LineSink>(
-    basis: &Basis<'_>,
-    derivation: &mut Derivation<L>,
-    fact: FactId,
-    form: u32,
-    first: IndId,
-    second: IndId,
-) -> Result<LineNumbers, Memory>
-    requires saturated { IsSaturated basis.now.ontology.now basis.now.saturation.now }
-    requires there { fact.0 < length basis.now.saturation.now.state.facts }
-    requires derivation { IsDerivation basis.now.ontology.now derivation.old }
-    requires born { IsBornBy basis.now.saturation.now fact.0 form }
-    requires differ { slice_get basis.now.saturation.now.state.problem.forms form ≡ Some (N11 first second) }
-    ensures derivation { OnOk result (IsDerivation basis.now.ontology.now derivation.new) }
-    ensures longer { OnOk result (Lengthens derivation.old derivation.new) }
-    ensures shown { IfOk result (λ numbers. ShowsFact basis.now.saturation.now derivation.new fact.0 numbers.items) }
-    ensures used { IfOk result (λ numbers. Uses derivation.old derivation.new (IsAmong []) numbers.items) }
-{
-    basis.ontology.well_formed();
-    basis.ontology.bounded();
-    let normal = basis.saturation.normal();
-    let individuals = basis.ontology.individuals().len();
-    let found = chain_between(basis.alloc, individuals, normal.forms(), first, second)?;
-    let Some(chain) = found else {
-        // They are one.
-        unreachable!()
-    };
-    let number = same_along(basis, derivation, first, &chain)?;
-    let mut numbers = SmallVec::new(basis.alloc);
-    numbers.push(number)?;
-    let fact = fact_of(basis.saturation, fact);
-    let (rule, axiom) = origin_rule(basis.ontology, normal, form, &Form::N11(first, second));
-    let numbers = concluded(basis.alloc, derivation, fact, rule, axiom, numbers)?;
-    Ok(numbers)
-}
+/// The condition of a fact that two individuals led to that differ and are one.
+const BY_DIFFERENT: u8 = 12;
 
-/// What a form led to: adds the line of the fact, where it has one, and gives the numbers of the lines that show the fact.
+/// The condition of a fact that two classes led to that have nothing in common.
+const BY_DISJOINT: u8 = 14;
+
+/// What a form led to, or a list of what is apart: adds the line of the fact, where it has one, and gives the numbers of the lines that
+/// show the fact. `number` is that of the form or of the list.
 ///
 /// # Errors
 ///
-/// `Memory` where memory was refused.
+/// `Memory` where memory was refused, or there are more than 2^32 - 1 forms.
 pub(crate) fn shown_by_form<L: LineSink>(
     basis: &Basis<'_>,
     derivation: &mut Derivation<L>,
     shown: &LinesByFact,
     fact: FactId,
     birth: &Birth,
-    form: u32,
+    number: u32,
 ) -> Result<LineNumbers, Memory>
     requires saturated { IsSaturated basis.now.ontology.now basis.now.saturation.now }
     requires paths { basis.now.paths.now ≡ basis.now.saturation.now.state.problem.forms }
@@ -257,29 +227,30 @@ pub(crate) fn shown_by_form<L: LineSink>(
     requires derivation { IsDerivation basis.now.ontology.now derivation.old }
     requires older { AreOlderShown basis.now.saturation.now derivation.old shown.now fact.0 }
     requires birth { slice_get basis.now.saturation.now.state.births fact.0 ≡ Some (reason birth.now) }
-    requires form { (reason birth.now).form ≡ Some form }
+    requires form { (reason birth.now).form ≡ Some number }
     ensures derivation { OnOk result (IsDerivation basis.now.ontology.now derivation.new) }
     ensures longer { OnOk result (Lengthens derivation.old derivation.new) }
     ensures shown { IfOk result (λ numbers. ShowsFact basis.now.saturation.now derivation.new fact.0 numbers.items) }
     ensures used { IfOk result (λ numbers. EachIsUsed basis.now.saturation.now shown.now fact.0 derivation.old derivation.new numbers.items) }
 {
-    if birth.condition() == BY_INCLUSION {
-        let numbers = shown_by_inclusion(basis, derivation, shown, fact, birth, form)?;
+    let condition = birth.condition();
+    if condition == BY_INCLUSION {
+        let numbers = shown_by_inclusion(basis, derivation, shown, fact, birth, number)?;
         return Ok(numbers);
     }
-    let step = basis.saturation.normal().forms().at(form as usize);
-    match step {
-        Form::N10(..) => {
-            let numbers = shown_by_same(basis, derivation, shown, fact, birth, form)?;
-            Ok(numbers)
-        }
-        Form::N11(first, second) => {
-            let numbers = shown_by_different(basis, derivation, fact, form, first, second)?;
-            Ok(numbers)
-        }
-        _ => {
-            let numbers = shown_by_facts(basis, derivation, shown, fact, birth, form, &step)?;
-            Ok(numbers)
-        }
+    if condition == BY_DISJOINT {
+        let numbers = shown_by_disjoint(basis, derivation, shown, fact, birth, number)?;
+        return Ok(numbers);
     }
+    if condition == BY_DIFFERENT {
+        let numbers = shown_by_different(basis, derivation, fact, number)?;
+        return Ok(numbers);
+    }
+    let step = basis.saturation.normal().forms().at(number as usize);
+    if let Form::N10(..) = step {
+        let numbers = shown_by_same(basis, derivation, shown, fact, birth, number)?;
+        return Ok(numbers);
+    }
+    let numbers = shown_by_facts(basis, derivation, shown, fact, birth, number, &step)?;
+    Ok(numbers)
 }

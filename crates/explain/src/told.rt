@@ -44,15 +44,8 @@ pub(crate) fn all_told(
     ensures { IfOk result (λ l. AreTold properties (LeadsUp forms.now) l) }
 {
     let mut told = OpenLists::new(alloc, properties)?;
-    let mut number = 0;
-    while number < forms.len() {
-        match forms.disjoint_from(number) {
-            Some(disjoint) => number = disjoint.end,
-            None => {
-                tell_up(forms, number, &mut told)?;
-                number += 1;
-            }
-        }
+    for number in 0..forms.len() {
+        tell_up(forms, number, &mut told)?;
     }
     Ok(told.packed(alloc)?)
 }
@@ -87,15 +80,8 @@ pub(crate) fn all_links(
     ensures { IfOk result (λ l. AreTold individuals (LeadsOver forms.now) l) }
 {
     let mut links = OpenLists::new(alloc, individuals)?;
-    let mut number = 0;
-    while number < forms.len() {
-        match forms.disjoint_from(number) {
-            Some(disjoint) => number = disjoint.end,
-            None => {
-                tell_over(forms, number, &mut links)?;
-                number += 1;
-            }
-        }
+    for number in 0..forms.len() {
+        tell_over(forms, number, &mut links)?;
     }
     Ok(links.packed(alloc)?)
 }

@@ -11,7 +11,7 @@ numbers_of older.None = []
 numbers_of (older.One m) = m.0 ∷ []
 numbers_of (older.Two m n) = m.0 ∷ n.0 ∷ []
 
--- what gave a fact: a condition, the numbers of older facts, and the place of a form
+-- what gave a fact: a condition, the numbers of older facts, and the place of a form, or of a list of what is apart
 pub record Reason : Type 0 where
   pub condition : ℕ
   pub older : List ℕ

@@ -1,4 +1,4 @@
--- The facts that normal forms lead to, by thirteen conditions.
+-- The facts that normal forms, and lists of what is apart, lead to.
 use Rattle.std.specs.Prelude.{◌≡◌, ◌⊎◌, ℕ, List, [], ◌∷◌, slice_get, Option, Some, None}
 use Rattle.std.specs.List.{Contains}
 use Rattle.axioms.specs.declared.ids.ExprId.{ExprId}
@@ -8,16 +8,20 @@ use Rattle.normal_forms.specs.declared.forms.Class2.TheVariants as classes
 use Rattle.normal_forms.specs.declared.forms.PropId2.{PropId2}
 use Rattle.normal_forms.specs.declared.forms.PropId2.TheVariants.{Property}
 use Rattle.normal_forms.specs.declared.forms.Form.{Form}
-use Rattle.normal_forms.specs.declared.forms.Form.TheVariants.{N1, N2, N3, N4, N5, N6, N7, N8, N9, N10, N11, N12}
+use Rattle.normal_forms.specs.declared.forms.Form.TheVariants.{N1, N2, N3, N4, N5, N6, N7, N8, N9, N10, N12}
+use Rattle.normal_forms.specs.declared.apart.ApartLists.{ApartLists}
+use Rattle.normal_forms.specs.Apart.{AreListedAt}
 use Rattle.normal_forms.specs.Properties.{IsAtOrBelow}
 use Rattle.facts.specs.declared.contexts.Context.{Context}
 use Rattle.facts.specs.declared.contexts.Context.TheVariants.{Expr, Individual}
 use Rattle.facts.specs.declared.contexts.Fact.{Fact}
 use Rattle.facts.specs.declared.contexts.Fact.TheVariants.{In, Edge}
 
--- normal forms, and the contexts that are there from the start: named classes, individuals, expressions that are asked about
+-- normal forms, lists of what is apart, and the contexts that are there from the start: named classes, individuals, expressions that are
+-- asked about
 pub record Problem : Type 0 where
   pub forms : List Form
+  pub apart : ApartLists
   pub roots : List Context
 
 abbrev pub thing : Class2
@@ -76,7 +80,6 @@ condition (N7 _) = 10
 condition (N8 _ _) = 2
 condition (N9 _ _ _) = 3
 condition (N10 _ _) = 11
-condition (N11 _ _) = 12
 condition (N12 _ _ _) = 13
 
 -- the form makes the two one, in either order
@@ -109,7 +112,12 @@ abbrev pub IsLoop : Context → Form → Fact → Type 0
 IsLoop x (N7 r) f = f ≡ Edge x (Property r) x
 IsLoop x _ f = ⊥
 
--- the facts, in their order, give the fact by that condition, and by the form at that place where the condition has one
+-- the list of disjoint classes of that number has the two, the first at an earlier place
+abbrev pub AreDisjointAt : Problem → ℕ → Class2 → Class2 → Type 0
+AreDisjointAt k l a b = (c : ExprId) × (d : ExprId) × (a ≡ classes.Expr c) × (b ≡ classes.Expr d) × AreListedAt k.apart.classes l c d
+
+-- the facts, in their order, give the fact by that condition, and by the form of that number where the condition has one: 12 and 14 are of
+-- lists, by the list of that number. What two classes give by 14 they would give by 5, had each two of the list a form
 pub data Gives (k : Problem) : ℕ → Option ℕ → List Fact → Fact → Type 0 where
   in_thing : {older : List Fact} {x : Context} → IsContextBy k older x → Gives k 1 None older (In thing x)
   in_itself : {older : List Fact} {e : ExprId} → IsContextBy k older (Expr e) → Gives k 1 None older (In (classes.Expr e) (Expr e))
@@ -117,7 +125,8 @@ pub data Gives (k : Problem) : ℕ → Option ℕ → List Fact → Fact → Typ
   unsatisfiable : {older : List Fact} {f : Fact} → CarriesBack older f → Gives k 8 None older f
   loop : {older : List Fact} {f : Fact} (x : Context) (n : ℕ) (form : Form) → slice_get k.forms n ≡ Some form → IsLoop x form f → IsContextBy k older x → Gives k 10 (Some n) older f
   handed_on : {g f : Fact} (n : ℕ) (form : Form) → slice_get k.forms n ≡ Some form → HandsOn form g f → Gives k 11 (Some n) (g ∷ []) f
-  different : (n : ℕ) (a b : IndId) → slice_get k.forms n ≡ Some (N11 a b) → AreSame k.forms a b → Gives k 12 (Some n) [] (In nothing (Individual a))
+  different : (l : ℕ) (a b : IndId) → AreListedAt k.apart.individuals l a b → AreSame k.forms a b → Gives k 12 (Some l) [] (In nothing (Individual a))
+  apart : (l : ℕ) (a b : Class2) (x : Context) → AreDisjointAt k l a b → Gives k 14 (Some l) (In a x ∷ In b x ∷ []) (In nothing x)
 
 -- the closure: the facts with a finite derivation tree
 mutual

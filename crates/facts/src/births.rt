@@ -14,8 +14,8 @@ pub enum Older {
     Two(FactId, FactId),
 }
 
-/// What gave a fact: a condition of the closure, from 1 to 13, older facts, and the place of a form, where the condition
-/// has one. There is one for each fact, so it is kept in 16 bytes.
+/// What gave a fact: a condition of the closure, from 1 to 14, older facts, and the place of a form, where the condition
+/// has one, or of a list of what is apart, where it is of lists. There is one for each fact, so it is kept in 16 bytes.
 #[derive(Clone, Copy, PartialEq, Eq)]
 pub struct Birth {
     condition: u8,
@@ -68,7 +68,7 @@ impl Birth {
         }
     }
 
-    /// The place of the form, where there is one.
+    /// The place of the form, or of the list, where there is one.
     #[tactic(auto, unfolding(crate::specs::Births::reason))]
     pub fn form(&self) -> Option<u32>
         ensures { result ≡ (reason self.now).form }

@@ -1,5 +1,5 @@
 -- Forms counted by their keys, and the numbers of those with one.
-use Rattle.std.proofs.Common.{◌≡◌, ℕ, zero, suc, ◌+◌, ◌-◌, ◌==◌, ◌<◌, ◌≤◌, ◌⊎◌, inl, inr, ⊎_elim, Bool, true, false, cond, true≢false, List, [], ◌∷◌, ◌++◌, length, get_or, slice_index, Option, Some, None, Contains, refl, sym, ap, subst, ◌∙◌, append-nil, add-one, le_of_eq, le_antisymm, length-append, arith}
+use Rattle.std.proofs.Common.{◌≡◌, ℕ, zero, suc, ◌+◌, ◌-◌, ◌==◌, ◌<◌, ◌≤◌, ◌⊎◌, inl, inr, ⊎_elim, Bool, true, false, cond, true≢false, List, [], ◌∷◌, ◌++◌, length, get_or, slice_get, slice_index, Option, Some, None, Contains, refl, sym, ap, subst, ◌∙◌, append-nil, add-one, le_of_eq, le_antisymm, length-append, arith}
 use Rattle.std.proofs.lemmas.Bool.{cases_lt}
 use Rattle.std.proofs.lemmas.Bool.Decides.{eqb_tells}
 use Rattle.std.proofs.lemmas.List.{get_or_append_left, get_or_past, get_or_push, length_push}
@@ -196,33 +196,10 @@ none_counted key there counts w p = record {
   partials = λ k. le_of_eq (ap (λ (list : List ℕ). before (slice_index list) k) p ∙ before_none (slice_index []) (λ j. refl) k);
 }
 
-pub form_counted : (there : ℕ → Option Form) (i : ℕ) (form : Form) → there i ≡ Some form → (old new : ByRole KeyCounts) → AreFormCounts there i old → CountsForm old new form → AreFormCounts there (i + 1) new
-form_counted there i form at old new were more =
-    for_other (λ key counts. AreCountsOf key there i counts) (λ key before after. CountsKey before after (key form)) (λ key counts. AreCountsOf key there (i + 1) counts) old new
-    (λ key before after was w. counted_more key there i form at before after was w) were more
-
--- nothing is there between the two numbers
-skipped : (b : Option Key) (k : Key) (n : ℕ) → b ≡ None → cond (is_key k b) (n ∷ []) [] ≡ []
-skipped b k n e = ap (λ (o : Option Key). cond (is_key k o) (n ∷ []) []) e
-
-pub numbers_skip : {X : Type 0} (key : X → Option Key) (there : ℕ → Option X) (k : Key) (i n : ℕ) → i ≤ n → ((j : ℕ) → i ≤ j → j < n → there j ≡ None) → numbers_under key there k i ≡ numbers_under key there k n
-numbers_skip key there k i zero le none = let e : i ≡ 0 = omega (arith, le) in ap (numbers_under key there k) e
-numbers_skip key there k i (suc n) le none = ⊎_elim
-    (λ low. let at : i ≤ n = omega (arith, low) in
-    numbers_skip key there k i n at (λ j ge lt. none j ge (omega (arith, lt)))
-    ∙ sym (ap (λ (more : List ℕ). numbers_under key there k n ++ more) (skipped (option_and_then key (there n)) k n (ap (option_and_then key) (none n at (omega arith)))) ∙ append-nil (numbers_under key there k n)))
-    (λ high. ap (numbers_under key there k) (le_antisymm le high))
-    (cases_lt i (suc n))
-
--- .. so what is counted below the one is counted below the other
-pub forms_skipped : (there : ℕ → Option Form) (i n : ℕ) → i ≤ n → ((j : ℕ) → i ≤ j → j < n → there j ≡ None) → (counts : ByRole KeyCounts) → AreFormCounts there i counts → AreFormCounts there n counts
-forms_skipped there i n le none counts were = for_each (λ key by. AreCountsOf key there i by) (λ key by. AreCountsOf key there n by) counts
-    (λ key by was. record {
-      exact = λ k. was.exact k ∙ ap length (numbers_skip key there k i n le none);
-      wholes = λ k. omega (arith, was.wholes k, le);
-      partials = λ k. omega (arith, was.partials k, le);
-    })
-    were
+pub form_counted : (forms : List Form) (i : ℕ) (form : Form) → slice_get forms i ≡ Some form → (old new : ByRole KeyCounts) → AreFormCounts forms i old → CountsForm old new form → AreFormCounts forms (i + 1) new
+form_counted forms i form at old new were more =
+    for_other (λ key counts. AreCountsOf key (slice_get forms) i counts) (λ key before after. CountsKey before after (key form)) (λ key counts. AreCountsOf key (slice_get forms) (i + 1) counts) old new
+    (λ key before after was w. counted_more key (slice_get forms) i form at before after was w) were more
 
 -- no kind of key has more than there are
 pub few_of : {X : Type 0} (key : X → Option Key) (there : ℕ → Option X) (end : ℕ) (counts : KeyCounts) → end ≤ 4294967295 → AreCountsOf key there end counts → AreFew counts
@@ -231,9 +208,9 @@ few_of key there end counts few was = record {
   partials = omega (arith, was.partials (length counts.partials.items), few);
 }
 
-pub few_counted : (there : ℕ → Option Form) (end : ℕ) (counts : ByRole KeyCounts) → end ≤ 4294967295 → AreFormCounts there end counts → ForEach (λ key by. AreFew by) counts
-few_counted there end counts few are = for_each (λ key by. AreCountsOf key there end by) (λ key by. AreFew by) counts
-    (λ key by was. few_of key there end by few was)
+pub few_counted : (forms : List Form) (counts : ByRole KeyCounts) → length forms ≤ 4294967295 → AreFormCounts forms (length forms) counts → ForEach (λ key by. AreFew by) counts
+few_counted forms counts few are = for_each (λ key by. AreCountsOf key (slice_get forms) (length forms) by) (λ key by. AreFew by) counts
+    (λ key by was. few_of key (slice_get forms) (length forms) by few was)
     are
 
 -- ---- where lists start

@@ -1,7 +1,8 @@
 -- Lists in one piece, as they are filled.
-use Rattle.std.proofs.Common.{◌≡◌, ℕ, zero, suc, ◌+◌, ◌-◌, ◌<◌, ◌≤◌, ⊎_elim, false, List, [], ◌∷◌, ◌++◌, length, get_or, take, drop, slice_index, Option, Some, None, refl, sym, ap, subst, ◌∙◌, add-one, length-set, length-take, length-drop, get_or-set_same, get_or-set_other, get_or-take, get_or-drop, arith}
+use Rattle.std.proofs.Common.{◌≡◌, ℕ, zero, suc, ◌+◌, ◌-◌, ◌<◌, ◌≤◌, ⊎_elim, false, List, [], ◌∷◌, ◌++◌, length, get_or, take, drop, slice_get, slice_index, Option, Some, None, refl, sym, ap, subst, ◌∙◌, add-one, length-set, length-take, length-drop, get_or-set_same, get_or-set_other, get_or-take, get_or-drop, arith}
 use Rattle.std.proofs.lemmas.Bool.{cases_lt, cases_eq}
 use Rattle.std.proofs.lemmas.List.{get_or_past, get_or_push, get_or_append_left, get_or_default, length_push, same_lists}
+use Rattle.std.proofs.lemmas.Option.{slice_get_within}
 use Rattle.std.specs.List.Sorted.{IsNonDecreasing}
 use Rattle.indexes.specs.declared.lists.Filling.{Filling}
 use Rattle.indexes.specs.Lists.{before, list_at, AreAllListed, HasPlace, IsRoomFor, IsWithin, Places}
@@ -16,7 +17,7 @@ use Rattle.indexes.specs.KeyFillings.{AreFull, HasPlaces, HasPlaceUnder, IsRoomU
 use Rattle.indexes.specs.Roles.{ForEach, ForEachTwo}
 use Rattle.indexes.specs.declared.roles.ByRole.{ByRole}
 use Rattle.indexes.proofs.ByRoles.{for_each, for_other}
-use Rattle.indexes.proofs.Counting.{before_next, before_none, before_rises, numbers_rise, numbers_skip, numbers_to_come, numbers_with, numbers_without, other_key}
+use Rattle.indexes.proofs.Counting.{before_next, before_none, before_rises, numbers_rise, numbers_to_come, numbers_with, numbers_without, other_key}
 
 no_length : (xs : List ℕ) → length xs ≡ 0 → xs ≡ []
 no_length [] e = refl
@@ -237,13 +238,6 @@ none_filled_under key there end counts f few was w = record {
   partials = nothing_filled counts.partials.items f.partials (λ k. numbers_under key there (Partial k) end) w.partials (omega (arith, was.partials (length counts.partials.items), few)) (λ k. was.exact (Partial k));
 }
 
--- nothing is there between the two numbers
-pub filled_skipped : {X : Type 0} (key : X → Option Key) (there : ℕ → Option X) (end i n : ℕ) → i ≤ n → ((j : ℕ) → i ≤ j → j < n → there j ≡ None) → (f : KeyFilling) → AreFilled key there end i f → AreFilled key there end n f
-filled_skipped key there end i n le none f was = record {
-  wholes = same_parts _ (λ k. numbers_under key there (Whole k) i) _ f.wholes (λ k. sym (numbers_skip key there (Whole k) i n le none)) was.wholes;
-  partials = same_parts _ (λ k. numbers_under key there (Partial k) i) _ f.partials (λ k. sym (numbers_skip key there (Partial k) i n le none)) was.partials;
-}
-
 -- all are placed, so the lists are full
 pub full_under : {X : Type 0} (key : X → Option Key) (there : ℕ → Option X) (end : ℕ) (f : KeyFilling) → AreFilled key there end end f → AreFull f
 full_under key there end f was = record {
@@ -253,33 +247,37 @@ full_under key there end f was = record {
 
 -- ---- by each of the keys
 
--- .. by each key that forms have
-abbrev pub AreAllFilled : (ℕ → Option Form) → ℕ → ℕ → ByRole KeyFilling → Type 0
-AreAllFilled there end n filling = ForEach (λ key by. AreFilled key there end n by) filling
+-- the numbers below n of the forms with each key stand in their lists
+abbrev pub AreAllFilled : List Form → ℕ → ByRole KeyFilling → Type 0
+AreAllFilled forms n filling = ForEach (λ key by. AreFilled key (slice_get forms) (length forms) n by) filling
 
-pub none_filled : (there : ℕ → Option Form) (end : ℕ) (counts : ByRole KeyCounts) (filling : ByRole KeyFilling) → end ≤ 4294967295 → AreFormCounts there end counts
-    → ForEachTwo (λ key by room. IsRoomUnder by room) counts filling → AreAllFilled there end 0 filling
-none_filled there end counts filling few are room =
-    for_other (λ key by. AreCountsOf key there end by) (λ key by f. IsRoomUnder by f) (λ key f. AreFilled key there end 0 f) counts filling
-    (λ key by f was w. none_filled_under key there end by f few was w)
+pub none_filled : (forms : List Form) (counts : ByRole KeyCounts) (filling : ByRole KeyFilling) → length forms ≤ 4294967295 → AreFormCounts forms (length forms) counts
+    → ForEachTwo (λ key by room. IsRoomUnder by room) counts filling → AreAllFilled forms 0 filling
+none_filled forms counts filling few are room =
+    for_other (λ key by. AreCountsOf key (slice_get forms) (length forms) by) (λ key by f. IsRoomUnder by f) (λ key f. AreFilled key (slice_get forms) (length forms) 0 f) counts filling
+    (λ key by f was w. none_filled_under key (slice_get forms) (length forms) by f few was w)
     are room
 
-module _ (there : ℕ → Option Form) (end i : ℕ) where
-  module _ (form : Form) (at : there i ≡ Some form) (low : i < end) where
-    pub has_places : (filling : ByRole KeyFilling) → AreAllFilled there end i filling → HasPlaces filling form
-    has_places filling were = for_each (λ key f. AreFilled key there end i f) (λ key f. HasPlaceUnder f (key form)) filling
-        (λ key f was. has_place_under key there end i form at low f f was (key form) refl) were
+module _ (forms : List Form) (i : ℕ) (form : Form) (at : slice_get forms i ≡ Some form) where
+  low : i < length forms
+  low = slice_get_within forms i form at
 
-    pub form_filled : (old new : ByRole KeyFilling) → AreAllFilled there end i old → PlacesForm old new form i → AreAllFilled there end (i + 1) new
-    form_filled old new were places = for_other (λ key f. AreFilled key there end i f) (λ key f g. PlacesUnder f g (key form) i) (λ key g. AreFilled key there end (i + 1) g) old new
-        (λ key f g was w. filled_under key there end i form at low f g was (key form) refl w) were places
+  pub has_places : (filling : ByRole KeyFilling) → AreAllFilled forms i filling → HasPlaces filling form
+  has_places filling were = for_each (λ key f. AreFilled key (slice_get forms) (length forms) i f) (λ key f. HasPlaceUnder f (key form)) filling
+      (λ key f was. has_place_under key (slice_get forms) (length forms) i form at low f f was (key form) refl) were
 
-  pub all_skipped : (n : ℕ) → i ≤ n → ((j : ℕ) → i ≤ j → j < n → there j ≡ None) → (filling : ByRole KeyFilling) → AreAllFilled there end i filling → AreAllFilled there end n filling
-  all_skipped n le none filling were = for_each (λ key f. AreFilled key there end i f) (λ key f. AreFilled key there end n f) filling
-      (λ key f was. filled_skipped key there end i n le none f was) were
+  pub form_filled : (old new : ByRole KeyFilling) → AreAllFilled forms i old → PlacesForm old new form i → AreAllFilled forms (i + 1) new
+  form_filled old new were places = for_other (λ key f. AreFilled key (slice_get forms) (length forms) i f) (λ key f g. PlacesUnder f g (key form) i) (λ key g. AreFilled key (slice_get forms) (length forms) (i + 1) g) old new
+      (λ key f g was w. filled_under key (slice_get forms) (length forms) i form at low f g was (key form) refl w) were places
 
--- all forms are placed, so the lists are full
-pub all_full : (there : ℕ → Option Form) (end : ℕ) (filling : ByRole KeyFilling) → AreAllFilled there end end filling → ForEach (λ key by. AreFull by) filling
-all_full there end filling are = for_each (λ key f. AreFilled key there end end f) (λ key f. AreFull f) filling
-    (λ key f was. full_under key there end f was)
+-- all forms are placed
+pub all_filled : (forms : List Form) (n end : ℕ) (filling : ByRole KeyFilling) → n ≤ end → end ≤ n → end ≡ length forms → AreAllFilled forms n filling → AreAllFilled forms (length forms) filling
+all_filled forms n end filling low high all were =
+    let same : n ≡ length forms = omega (arith, low, high, all) in
+    subst (λ (m : ℕ). AreAllFilled forms m filling) same were
+
+-- so the lists are full
+pub all_full : (forms : List Form) (filling : ByRole KeyFilling) → AreAllFilled forms (length forms) filling → ForEach (λ key by. AreFull by) filling
+all_full forms filling are = for_each (λ key f. AreFilled key (slice_get forms) (length forms) (length forms) f) (λ key f. AreFull f) filling
+    (λ key f was. full_under key (slice_get forms) (length forms) f was)
     are

@@ -1,18 +1,15 @@
 -- The least of each group of individuals that forms make one.
-use Rattle.std.proofs.Common.{◌≡◌, ◌↔◌, ℕ, ◌+◌, ◌<◌, ◌≤◌, ◌⊎◌, inl, inr, ⊎_elim, Bool, true, IsTrue, List, length, take, slice_get, slice_index, Some, Contains, refl, sym, ap, ◌∙◌, subst, arith, rules, eqb}
+use Rattle.std.proofs.Common.{◌≡◌, ◌↔◌, ℕ, ◌+◌, ◌<◌, ◌≤◌, ◌⊎◌, inl, inr, ⊎_elim, Bool, true, IsTrue, List, length, slice_get, slice_index, Some, Contains, refl, sym, ap, ◌∙◌, subst, arith, rules, eqb}
 use Rattle.std.specs.List.{All}
 use Rattle.std.proofs.lemmas.List.{get_or_past, get_or_default}
 use Rattle.std.proofs.lemmas.List.Elements.{All-contains}
 use Rattle.std.proofs.lemmas.Bool.{cases_eq, cases_lt}
 use Rattle.std.proofs.lemmas.Option.{same_Some, slice_get_within}
 use Rattle.lemmas.proofs.Members.{slice_get-from_Contains}
-use Rattle.axioms.specs.declared.ids.ExprId.{ExprId}
 use Rattle.axioms.specs.declared.ids.IndId.{IndId}
 use Rattle.normal_forms.specs.declared.forms.Form.{Form}
 use Rattle.normal_forms.specs.declared.forms.Form.TheVariants.{N10}
-use Rattle.normal_forms.specs.Pairs.{StandFrom}
 use Rattle.normal_forms.proofs.Filters.{kept, from_kept}
-use Rattle.normal_forms.proofs.Pairs.{disjoint_at, filter_skips}
 use Rattle.facts.specs.Closure.{AreSame, Links, itself, step}
 use Rattle.facts.proofs.Sameness.{and_then, turned, one_link, of_more}
 use Rattle.indexes.specs.Groups.{AreLeast, IsBelow, is_link, least_in, links}
@@ -31,11 +28,6 @@ to_links forms (step {j = j} h form p there link) = step h form (to_links forms 
 
 pub links_suffice : (forms : List Form) (i j : IndId) → AreSame (links forms) i j ↔ AreSame forms i j
 links_suffice forms i j = (of_more (λ form. from_kept is_link forms form), to_links forms)
-
--- no form of disjoint classes does
-pub links_past : {forms : List Form} {number : ℕ} {classes : List ExprId} {end : ℕ} → StandFrom forms number classes end → links (take number forms) ≡ links (take end forms)
-links_past {forms} {number} {classes} {end} s = filter_skips is_link forms number end (omega (arith, s.some)) s.within (λ k form low high at.
-    let (a, b, is) = disjoint_at s k form low high at in rw is refl)
 
 -- ---- two that are one by a form are below the count
 

@@ -1,8 +1,8 @@
 -- Forms that are found by two keys.
-use Rattle.std.proofs.Common.{◌≡◌, ◌↔◌, ℕ, ◌+◌, List, slice_get, Option, Some, Contains, sym, ap, subst, ◌∙◌, arith}
+use Rattle.std.proofs.Common.{◌≡◌, ◌↔◌, ℕ, List, slice_get, Option, Some, Contains, sym, ap, subst, ◌∙◌, arith}
 use Rattle.std.proofs.lemmas.Option.{none-some, same_Some}
 use Rattle.normal_forms.specs.declared.forms.Form.{Form}
-use Rattle.normal_forms.specs.declared.forms.Form.TheVariants.{N1, N2, N3, N4, N5, N6, N7, N8, N9, N10, N11, N12}
+use Rattle.normal_forms.specs.declared.forms.Form.TheVariants.{N1, N2, N3, N4, N5, N6, N7, N8, N9, N10, N12}
 use Rattle.indexes.specs.declared.key_lists.KeyLists.{KeyLists}
 use Rattle.indexes.specs.declared.keys.Key.{Key}
 use Rattle.indexes.specs.declared.keys.Key.TheVariants.{Whole, Partial}
@@ -33,7 +33,6 @@ filler_agrees (N7 _) k l e = absurd (none-some k e)
 filler_agrees (N8 _ _) k l e = absurd (none-some k e)
 filler_agrees (N9 _ _ _) k l e = absurd (none-some k e)
 filler_agrees (N10 _ _) k l e = absurd (none-some k e)
-filler_agrees (N11 _ _) k l e = absurd (none-some k e)
 filler_agrees (N12 _ _ _) k l e = absurd (none-some k e)
 
 -- that of a chain is that of its second property
@@ -48,7 +47,6 @@ chain_agrees (N7 _) k l e = absurd (none-some k e)
 chain_agrees (N8 _ _) k l e = absurd (none-some k e)
 chain_agrees (N9 _ _ _) k l e = absurd (none-some k e)
 chain_agrees (N10 _ _) k l e = absurd (none-some k e)
-chain_agrees (N11 _ _) k l e = absurd (none-some k e)
 chain_agrees (N12 _ _ _) k l e = absurd (none-some k e)
 
 -- that of a pair that is denied is that of its target
@@ -63,7 +61,6 @@ denied_agrees (N7 _) k l e = absurd (none-some k e)
 denied_agrees (N8 _ _) k l e = absurd (none-some k e)
 denied_agrees (N9 _ _ _) k l e = absurd (none-some k e)
 denied_agrees (N10 _ _) k l e = absurd (none-some k e)
-denied_agrees (N11 _ _) k l e = absurd (none-some k e)
 denied_agrees (N12 a r b) k l e = agree (individual_key b) l
 
 module _ (forms : List Form) (first second : Form → Option Key) (agrees : (form : Form) (k l : Key) → first form ≡ Some k → (rank (second_key form) ≡ rank l) ↔ (second form ≡ Some l))

@@ -5,8 +5,7 @@ pub mod ByRoles
 pub mod Counting
 pub mod Filling
 pub mod Listing
-pub mod Rows
-pub mod Walking
+pub mod Operands
 pub mod Pairing
 pub mod Indexing
 pub mod Sides

@@ -1,7 +1,8 @@
 -- Lists of forms by key.
-use Rattle.std.proofs.Common.{◌≡◌, ◌↔◌, ◌+◌, ◌-◌, ◌<◌, ◌≤◌, ℕ, Bool, false, true, not, eqb, List, [], ◌∷◌, length, get_or, take, drop, Option, Some, Contains, refl, sym, ap, ap₂, subst, subst₂, ◌∙◌, arith}
+use Rattle.std.proofs.Common.{◌≡◌, ◌↔◌, ◌+◌, ◌-◌, ◌<◌, ◌≤◌, ℕ, Bool, false, true, not, eqb, List, [], ◌∷◌, length, get_or, slice_get, take, drop, Option, Some, Contains, refl, sym, ap, ap₂, subst, subst₂, ◌∙◌, arith}
 use Rattle.std.proofs.lemmas.Bool.{false≢true}
 use Rattle.std.proofs.lemmas.List.{get_or_past}
+use Rattle.std.proofs.lemmas.Option.{slice_get_within}
 use Rattle.std.specs.List.Sorted.{IsNonDecreasing}
 use Rattle.lemmas.proofs.Members.{Contains-none, Contains-first}
 use Rattle.normal_forms.specs.declared.forms.Form.{Form}
@@ -36,9 +37,9 @@ pub listed_under : {X : Type 0} (key : X → Option Key) (there : ℕ → Option
 listed_under key there end within f lists full w = lists_of_numbers key there end within lists (lists_filled key there end f lists full w)
 
 -- .. by each of the keys
-pub all_listed : (there : ℕ → Option Form) (end : ℕ) → ((n : ℕ) (form : Form) → there n ≡ Some form → n < end) → (filling : ByRole KeyFilling) (index : ByRole KeyLists) → AreAllFilled there end end filling → ForEachTwo (λ key by lists. AreListsOf by lists) filling index → AreFormsListed there index
-all_listed there end within filling index are of = for_other (λ key f. AreFilled key there end end f) (λ key f lists. AreListsOf f lists) (λ key lists. ListsNumbers key there lists) filling index
-    (λ key f lists full w. listed_under key there end within f lists full w) are of
+pub all_listed : (forms : List Form) (filling : ByRole KeyFilling) (index : ByRole KeyLists) → AreAllFilled forms (length forms) filling → ForEachTwo (λ key by lists. AreListsOf by lists) filling index → AreFormsListed forms index
+all_listed forms filling index are of = for_other (λ key f. AreFilled key (slice_get forms) (length forms) (length forms) f) (λ key f lists. AreListsOf f lists) (λ key lists. ListsNumbers key (slice_get forms) lists) filling index
+    (λ key f lists full w. listed_under key (slice_get forms) (length forms) (slice_get_within forms) f lists full w) are of
 
 -- the lists that are full ascend
 pub full_ascend : (f : KeyFilling) (lists : KeyLists) → AreFull f → AreListsOf f lists → Ascend lists

@@ -7,9 +7,9 @@ use Rattle.lemmas.proofs.Places.{slice_get_there, slice_get_take, take_slice_get
 use Rattle.indexes.specs.declared.disjoint.Beside.{Beside}
 use Rattle.indexes.specs.declared.disjoint.Operand.{Operand}
 use Rattle.indexes.specs.declared.keys.Key.{Key}
-use Rattle.indexes.specs.Disjoint.{operand_key, pair_number, AreOfOneList, AreRows, IsBeside, IsFirstOf, IsOf, IsWith}
-use Rattle.indexes.proofs.Pairing.{none_before, ArePlacesOf}
-use Rattle.indexes.proofs.Walking.{one}
+use Rattle.indexes.specs.Disjoint.{operand_key, AreInLists, AreOfOneList, IsBehind, IsBeside, IsFirstOf, IsOf, IsWith}
+use Rattle.indexes.proofs.Pairing.{ArePlacesOf}
+use Rattle.indexes.proofs.Operands.{one}
 
 -- ---- a piece of a list
 
@@ -31,17 +31,27 @@ from_piece xs i j x c =
 
 -- ---- the first operand of a list
 
+-- an operand with none behind it is in no list with one that is behind both
+none_before : (operands : List Operand) → AreInLists operands → (place : ℕ) (a : Operand) → slice_get operands (place - 1) ≡ Some a → a.behind ≤ 0 → (p : ℕ) (b c : Operand) → IsBehind operands p place b c → ⊥
+none_before operands are place a at none p b c w = ⊎_elim
+    (λ lt. omega (arith, are.behind p (place - 1) b a (record { first = w.first; second = at; below = lt; within = omega (arith, w.within) }), none, w.within, lt))
+    (λ ge.
+    let e : p ≡ place - 1 = omega (arith, ge, w.below) in
+    let same : b ≡ a = one (slice_get operands (place - 1)) b a (subst (λ (i : ℕ). slice_get operands i ≡ Some b) e w.first) at in
+    omega (arith, none, w.below, w.within, ap (λ (o : Operand). o.behind) same))
+    (cases_lt p (place - 1))
+
 -- those between are in one list with the one at the place
 abbrev pub AreFrom : List Operand → ℕ → ℕ → Type 0
 AreFrom operands place first = (q : ℕ) (a : Operand) → slice_get operands q ≡ Some a → first ≤ q → q < place → place ≤ q + a.behind
 
-module _ (operands : List Operand) (rows : AreRows operands) (place : ℕ) (there : place < length operands) where
+module _ (operands : List Operand) (are : AreInLists operands) (place : ℕ) (there : place < length operands) where
   module _ (first : ℕ) (below : first ≤ place) (each : AreFrom operands place first) where
     reaches : (a : Operand) → 0 < first → slice_get operands (first - 1) ≡ Some a → 0 < a.behind → place ≤ (first - 1) + a.behind
     reaches a some at more = ⊎_elim
         (λ lt.
         let b = slice_get_there operands first (omega (arith, lt, there)) in
-        let chained = rows.behind (first - 1) first a b.0 (record { first = at; second = b.1; below = omega (arith, some); within = omega (arith, some, more) }) in
+        let chained = are.behind (first - 1) first a b.0 (record { first = at; second = b.1; below = omega (arith, some); within = omega (arith, some, more) }) in
         omega (arith, chained, each first b.0 b.1 (omega arith) lt, some))
         (λ ge. omega (arith, ge, below, some, more))
         (cases_lt first place)
@@ -65,7 +75,7 @@ module _ (operands : List Operand) (rows : AreRows operands) (place : ℕ) (ther
       all = λ q b on low within. ⊎_elim
           (λ lt.
           let c = slice_get_there operands first (omega (arith, below, there)) in
-          absurd (none_before operands rows first a at none (pair_number q first b) (record { p = q; q = first; a = b; b = c.0; behind = record { first = on; second = c.1; below = lt; within = omega (arith, below, within) }; first = tt; second = refl; number = refl })))
+          absurd (none_before operands are first a at none q b c.0 (record { first = on; second = c.1; below = lt; within = omega (arith, below, within) })))
           (λ ge. ge)
           (cases_lt q first);
     }
@@ -128,8 +138,8 @@ module _ {self slice : List Operand} (k : Key) (list : List ℕ) (are : ArePlace
   of_one_list l q b e w =
       let here : IsOf self k place = are.of place (subst (λ (i : List ℕ). Contains i place) alone (0, omega arith, refl)) in
       ⊎_elim
-      (λ v. inl (pair_number place q v.0, record { p = place; q = q; a = v.0; b = b; behind = v.1; first = here; second = (b, v.1.second, e); number = refl }))
-      (λ v. inr (pair_number q place b, record { p = q; q = place; a = b; b = v.0; behind = v.1; first = (b, v.1.first, e); second = here; number = refl }))
+      (λ v. inl (v.0.list, record { p = place; q = q; a = v.0; b = b; behind = v.1; first = here; second = (b, v.1.second, e); list = refl }))
+      (λ v. inr (b.list, record { p = q; q = place; a = b; b = v.0; behind = v.1; first = (b, v.1.first, e); second = here; list = refl }))
       w
 
   pub all_by_key : (found : Option Beside) → IfSome found (λ beside. (q : ℕ) (b : Operand) → IsWith slice place q b → IsBeside beside b)

@@ -1,5 +1,5 @@
 -- How many numbers keys have.
-use Rattle.std.specs.Prelude.{◌≡◌, ℕ, ◌+◌, ◌≤◌, ◌⊎◌, List, length, slice_index, Option, Some, None}
+use Rattle.std.specs.Prelude.{◌≡◌, ℕ, ◌+◌, ◌≤◌, ◌⊎◌, List, length, slice_get, slice_index, Option, Some, None}
 use Rattle.normal_forms.specs.declared.forms.Form.{Form}
 use Rattle.indexes.specs.declared.keys.Key.{Key}
 use Rattle.indexes.specs.declared.keys.Key.TheVariants.{Whole, Partial}
@@ -38,6 +38,6 @@ pub record AreFew (counts : KeyCounts) : Type 0 where
 abbrev pub CountsForm : ByRole KeyCounts → ByRole KeyCounts → Form → Type 0
 CountsForm old new form = ForEachTwo (λ key before after. CountsKey before after (key form)) old new
 
--- the forms that are there below n are counted by each key that they have
-abbrev pub AreFormCounts : (ℕ → Option Form) → ℕ → ByRole KeyCounts → Type 0
-AreFormCounts there n counts = ForEach (λ key by. AreCountsOf key there n by) counts
+-- the forms with a number below n are counted by each key that they have
+abbrev pub AreFormCounts : List Form → ℕ → ByRole KeyCounts → Type 0
+AreFormCounts forms n counts = ForEach (λ key by. AreCountsOf key (slice_get forms) n by) counts

@@ -8,9 +8,9 @@ use Rattle.indexes.specs.declared.keys.Key.TheVariants.{Whole, Partial}
 use Rattle.indexes.specs.declared.key_lists.KeyLists.{KeyLists}
 use Rattle.indexes.specs.declared.roles.ByRole.{ByRole}
 use Rattle.indexes.specs.Roles.{ForEach}
+use Rattle.axioms.specs.declared.ids.ExprId.{ExprId}
 use Rattle.indexes.specs.declared.disjoint.Operand.{Operand}
-use Rattle.indexes.specs.Disjoint.{operand_key, outside, ArePairsOf, AreRows}
-use Rattle.indexes.specs.Keys.{by_kind, by_alone, by_first, by_second, by_filler, by_chain, by_end, by_plain, by_linked_first, by_linked_second, by_denied}
+use Rattle.indexes.specs.Disjoint.{operand_key, operands_from, AreInLists}
 use Rattle.indexes.specs.Lists.{list_at}
 use Rattle.indexes.specs.FormsUnderKeys.{HasKeyAt}
 use Rattle.indexes.specs.Seconds.{IsInOrder}
@@ -55,36 +55,24 @@ pub record AreAllPutInOrder (forms : List Form) (old new : ByRole KeyLists) : Ty
 
 -- operands of lists of disjoint classes are listed by the keys of their classes, in their order
 pub record ArePlaced (operands : List Operand) (places : KeyLists) : Type 0 where
-  pub rows : AreRows operands
+  pub lists : AreInLists operands
   pub listed : ListsNumbers operand_key (slice_get operands) places
   pub ascend : Ascend places
 
--- the numbers of forms are listed by each key that they have
-abbrev pub AreFormsListed : (ℕ → Option Form) → ByRole KeyLists → Type 0
-AreFormsListed there index = ForEach (λ key lists. ListsNumbers key there lists) index
+-- the numbers of the forms are listed by each key that they have
+abbrev pub AreFormsListed : List Form → ByRole KeyLists → Type 0
+AreFormsListed forms index = ForEach (λ key lists. ListsNumbers key (slice_get forms) lists) index
 
--- the forms are listed by each key that they have, but those of rows not by the classes of intersections; those of one class of an intersection
--- in the order of their numbers, those with a second key by which they are found in its order
-pub record IsFormIndex (forms : List Form) (operands : List Operand) (index : ByRole KeyLists) : Type 0 where
-  pub kinds : ListsNumbers by_kind (slice_get forms) index.kinds
-  pub alone : ListsNumbers by_alone (slice_get forms) index.alone
-  pub first : ListsNumbers by_first (outside forms operands) index.first
-  pub second : ListsNumbers by_second (outside forms operands) index.second
-  pub fillers : ListsNumbers by_filler (slice_get forms) index.fillers
-  pub chains : ListsNumbers by_chain (slice_get forms) index.chains
-  pub ends : ListsNumbers by_end (slice_get forms) index.ends
-  pub plain : ListsNumbers by_plain (slice_get forms) index.plain
-  pub linked_first : ListsNumbers by_linked_first (slice_get forms) index.linked_first
-  pub linked_second : ListsNumbers by_linked_second (slice_get forms) index.linked_second
-  pub denied : ListsNumbers by_denied (slice_get forms) index.denied
+-- .. those of one class of an intersection in the order of their numbers, those with a second key by which they are found in its order
+pub record IsFormIndex (forms : List Form) (index : ByRole KeyLists) : Type 0 where
+  pub listed : AreFormsListed forms index
   pub first_ascends : Ascend index.first
   pub second_ascends : Ascend index.second
   pub fillers_in_order : AreInOrder forms index.fillers
   pub chains_in_order : AreInOrder forms index.chains
   pub denied_in_order : AreInOrder forms index.denied
 
--- .. and the rows are those of the operands
-pub record IsIndexed (forms : List Form) (operands : List Operand) (lists : ByRole KeyLists) : Type 0 where
-  pub rows : AreRows operands
-  pub pairs : ArePairsOf forms operands
-  pub index : IsFormIndex forms operands lists
+-- .. and the operands are those of the lists of disjoint classes
+pub record IsIndexed (forms : List Form) (classes : List (List ExprId)) (operands : List Operand) (lists : ByRole KeyLists) : Type 0 where
+  pub listed : operands ≡ operands_from 0 classes
+  pub index : IsFormIndex forms lists

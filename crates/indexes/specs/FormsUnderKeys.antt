@@ -1,5 +1,5 @@
 -- Forms under a key.
-use Rattle.std.specs.Prelude.{◌≡◌, ◌≤◌, ◌==◌, ℕ, zero, suc, Bool, false, cond, List, [], ◌∷◌, ◌++◌, slice_get, Option, Some, None}
+use Rattle.std.specs.Prelude.{◌≡◌, ◌==◌, ℕ, zero, suc, Bool, false, cond, List, [], ◌∷◌, ◌++◌, slice_get, Option, Some, None}
 use Rattle.std.specs.Option.{option_and_then}
 use Rattle.normal_forms.specs.declared.forms.Form.{Form}
 use Rattle.indexes.specs.declared.keys.Key.{Key}
@@ -25,7 +25,3 @@ HasKeyAt {X} key there k n = (x : X) × (there n ≡ Some x) × (key x ≡ Some 
 abbrev pub numbers_under : {X : Type 0} → (X → Option Key) → (ℕ → Option X) → Key → ℕ → List ℕ
 numbers_under key there k zero = []
 numbers_under key there k (suc n) = numbers_under key there k n ++ cond (is_key k (option_and_then key (there n))) (n ∷ []) []
-
--- the form of the one number is that of the other, which is no greater, if there is another
-abbrev pub IsLikeFirst : List Form → Option ℕ → ℕ → Type 0
-IsLikeFirst forms o n = (m : ℕ) × (o ≡ Some m) × (m ≤ n) × (slice_get forms n ≡ slice_get forms m)

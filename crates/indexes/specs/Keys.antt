@@ -6,7 +6,7 @@ use Rattle.normal_forms.specs.declared.forms.Class2.TheVariants as class
 use Rattle.normal_forms.specs.declared.forms.PropId2.{PropId2}
 use Rattle.normal_forms.specs.declared.forms.PropId2.TheVariants as property
 use Rattle.normal_forms.specs.declared.forms.Form.{Form}
-use Rattle.normal_forms.specs.declared.forms.Form.TheVariants.{N1, N2, N3, N4, N5, N6, N7, N8, N9, N10, N11, N12}
+use Rattle.normal_forms.specs.declared.forms.Form.TheVariants.{N1, N2, N3, N4, N5, N6, N7, N8, N9, N10, N12}
 use Rattle.indexes.specs.declared.keys.Key.{Key}
 use Rattle.indexes.specs.declared.keys.Key.TheVariants as key
 
@@ -21,12 +21,11 @@ property_key (property.Partial n) = key.Partial n
 abbrev pub individual_key : IndId → Key
 individual_key a = key.Whole a.0
 
--- 0 where the form gives a fact from none, 1 where it makes a property reflexive, 2 where it makes two individuals differ
+-- 0 where the form gives a fact from none, 1 where it makes a property reflexive
 abbrev pub by_kind : Form → Option Key
 by_kind (N7 _) = Some (key.Whole 1)
 by_kind (N8 _ _) = Some (key.Whole 0)
 by_kind (N9 _ _ _) = Some (key.Whole 0)
-by_kind (N11 _ _) = Some (key.Whole 2)
 by_kind _ = None
 
 -- the class that it needs alone

@@ -30,7 +30,8 @@ impl<'a> Apart<'a> {
         ensures no { result ≡ false → IsApart self.now class → ⊥ }
     {
         let other = key_of_class(class);
-        self.lists.pair(self.key, other).is_some() || self.lists.pair(other, self.key).is_some()
+        self.lists.list_of(self.key, other).is_some()
+            || self.lists.list_of(other, self.key).is_some()
     }
 
     /// All of them, if the class is in one list, and if they are at most so many.

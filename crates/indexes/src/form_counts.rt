@@ -1,10 +1,8 @@
 //! How many forms have each key.
-ghost use Rattle.std.specs.Prelude.{ℕ, Option, OnOk, IfOk, length};
+ghost use Rattle.std.specs.Prelude.{List, OnOk, IfOk, length};
 ghost use Rattle.normal_forms.specs.declared.forms.Form.{Form as Form2};
 ghost use Rattle.indexes.specs.Counts.{AreFormCounts, CountsForm};
-ghost use Rattle.indexes.specs.Disjoint.{outside, AreRows, ArePairsOf};
 
-use crate::disjoint::{Operand, row_end};
 use crate::key_counts::KeyCounts;
 use crate::keys::Key;
 use crate::named::{key_of_class, key_of_property};
@@ -14,7 +12,7 @@ use std::alloc::{AllocError, Global};
 
 /// Counts nothing.
 fn nothing_counted(alloc: Global) -> ByRole<KeyCounts>
-    ensures { (there : ℕ → Option Form2) → AreFormCounts there 0 result }
+    ensures { (forms : List Form2) → AreFormCounts forms 0 result }
 {
     ByRole {
         kinds: KeyCounts::new(alloc),
@@ -54,36 +52,17 @@ fn count(counts: &mut ByRole<KeyCounts>, form: Form) -> Result<(), AllocError>
             counts.linked_first.add(Key::Whole(a.0))?;
             counts.linked_second.add(Key::Whole(b.0))
         }
-        Form::N11(..) => counts.kinds.add(Key::Whole(2)),
         Form::N12(a, _, _) => counts.denied.add(Key::Whole(a.0)),
     }
 }
 
-/// How many of the forms have each key, but those in the rows of the operands. Fails where memory is refused, and where 2^32 forms have
-/// one key.
-pub(crate) fn counted(
-    alloc: Global,
-    forms: &FormList,
-    operands: &[Operand],
-) -> Result<ByRole<KeyCounts>, AllocError>
-    requires rows { AreRows operands.now }
-    requires pairs { ArePairsOf forms.now operands.now }
-    ensures { IfOk result (λ counts. AreFormCounts (outside forms.now operands.now) (length forms.now) counts) }
+/// How many of the forms have each key. Fails where memory is refused, and where 2^32 forms have one key.
+pub(crate) fn counted(alloc: Global, forms: &FormList) -> Result<ByRole<KeyCounts>, AllocError>
+    ensures { IfOk result (λ counts. AreFormCounts forms.now (length forms.now) counts) }
 {
     let mut counts = nothing_counted(alloc);
-    let mut number = 0;
-    let mut place = 0;
-    while number < forms.len() {
-        match row_end(operands, place, number) {
-            Some(end) => {
-                number = end;
-                place += 1;
-            }
-            None => {
-                count(&mut counts, forms.at(number))?;
-                number += 1;
-            }
-        }
+    for number in 0..forms.len() {
+        count(&mut counts, forms.at(number))?;
     }
     Ok(counts)
 }

@@ -1,12 +1,10 @@
 //! Lists of forms by key.
 ghost use Rattle.std.specs.Prelude.{◌≤◌, IfOk, [], length};
 ghost use Rattle.indexes.specs.Counts.{AreFew};
-ghost use Rattle.indexes.specs.Disjoint.{AreRows, ArePairsOf};
 ghost use Rattle.indexes.specs.FormIndex.{AreAllPutInOrder, IsFormIndex};
 ghost use Rattle.indexes.specs.KeyFillings.{AreFull, AreListsOf, HasPlaces, IsRoomUnder, PlacesForm};
 ghost use Rattle.indexes.specs.Roles.{ForEach, ForEachTwo};
 
-use crate::disjoint::{Operand, row_end};
 use crate::form_counts::counted;
 use crate::key_counts::KeyCounts;
 use crate::key_lists::{KeyFilling, KeyLists};
@@ -18,7 +16,7 @@ use std::alloc::{AllocError, Global};
 
 /// Lists nothing.
 pub(crate) fn nothing_listed(alloc: Global) -> ByRole<KeyLists>
-    ensures { IsFormIndex [] [] result }
+    ensures { IsFormIndex [] result }
 {
     ByRole {
         kinds: KeyLists::new(alloc),
@@ -79,7 +77,6 @@ fn place(filling: &mut ByRole<KeyFilling>, form: Form, number: u32)
             filling.linked_first.place(Key::Whole(a.0), number);
             filling.linked_second.place(Key::Whole(b.0), number);
         }
-        Form::N11(..) => filling.kinds.place(Key::Whole(2), number),
         Form::N12(a, _, _) => filling.denied.place(Key::Whole(a.0), number),
     }
 }
@@ -114,33 +111,15 @@ fn put_in_order(forms: &FormList, mut index: ByRole<KeyLists>) -> ByRole<KeyList
     index
 }
 
-/// Lists all of the forms by each key that they have, but those in the rows of the operands: it goes over them twice, and counts them
-/// first. Fails where memory is refused.
-pub(crate) fn listed(
-    alloc: Global,
-    forms: &FormList,
-    operands: &[Operand],
-) -> Result<ByRole<KeyLists>, AllocError>
-    requires few { length forms.now ≤ u32.MAX }
-    requires rows { AreRows operands.now }
-    requires pairs { ArePairsOf forms.now operands.now }
-    ensures { IfOk result (λ index. IsFormIndex forms.now operands.now index) }
+/// Lists all of the forms by each key that they have: it goes over them twice, and counts them first. Fails where memory is refused.
+pub(crate) fn listed(alloc: Global, forms: &FormList) -> Result<ByRole<KeyLists>, AllocError>
+    requires { length forms.now ≤ u32.MAX }
+    ensures { IfOk result (λ index. IsFormIndex forms.now index) }
 {
-    let counts = counted(alloc, forms, operands)?;
+    let counts = counted(alloc, forms)?;
     let mut filling = room_for(alloc, &counts)?;
-    let mut number = 0;
-    let mut next = 0;
-    while number < forms.len() {
-        match row_end(operands, next, number) {
-            Some(end) => {
-                number = end;
-                next += 1;
-            }
-            None => {
-                place(&mut filling, forms.at(number), number as u32);
-                number += 1;
-            }
-        }
+    for number in 0..forms.len() {
+        place(&mut filling, forms.at(number), number as u32);
     }
     Ok(put_in_order(forms, filled(filling)))
 }

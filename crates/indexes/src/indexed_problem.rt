@@ -1,13 +1,15 @@
 //! A problem whose forms are found by key.
-ghost use Rattle.std.specs.Prelude.{◌≡◌, ◌<◌, ◌↔◌, ◌⊎◌, ◌++◌, [], ℕ, Contains, IfOk, IfSome, None, Some, false, slice_get, true};
+ghost use Rattle.std.specs.Prelude.{◌≡◌, ◌<◌, ◌↔◌, ◌⊎◌, ◌++◌, [], ℕ, Contains, IfOk, IfSome, IsNone, false, slice_get, true};
 ghost use Rattle.axioms.specs.declared.ids.ExprId.{ExprId as ExprId2};
 ghost use Rattle.normal_forms.specs.declared.forms.Class2.{Class2 as Class3};
 ghost use Rattle.normal_forms.specs.declared.forms.Class2.TheVariants as classes;
 ghost use Rattle.indexes.specs.declared.keys.Key.{Key as Key2};
 ghost use Rattle.indexes.specs.declared.keys.Key.TheVariants as keys;
 ghost use Rattle.indexes.specs.Keys.{class_key, property_key, individual_key, by_kind, by_alone, by_first, by_second, by_filler, by_chain, by_end, by_plain, by_linked_first, by_linked_second, by_denied, by_restricted, by_target};
-ghost use Rattle.indexes.specs.Apart.{AreDisjoint, HasFirst, HasSecond, IsApart};
-ghost use Rattle.indexes.specs.FormsUnderKeys.{IsLikeFirst, IsUnder};
+ghost use Rattle.normal_forms.specs.Apart.{no_lists};
+ghost use Rattle.facts.specs.Closure.{AreDisjointAt};
+ghost use Rattle.indexes.specs.Apart.{AreApart, IsApart, IsInList};
+ghost use Rattle.indexes.specs.FormsUnderKeys.{IsUnder};
 
 use crate::apart::Apart;
 use crate::disjoint::Disjointness;
@@ -21,7 +23,7 @@ use crate::roles::ByRole;
 use crate::seconds::with_second;
 use axioms::IndId;
 use facts::Context;
-use normal_forms::{Class2, Form, FormList, PropId2};
+use normal_forms::{ApartLists, Class2, Form, FormList, PropId2};
 use std::alloc::{AllocError, Global};
 use std::marker::Model;
 
@@ -29,38 +31,20 @@ use std::marker::Model;
 pub struct IndexedProblem {
     alloc: Global,
     forms: FormList,
+    apart: ApartLists,
     roots: Vec<Context>,
     disjoint: Disjointness,
     index: ByRole<KeyLists>,
 }
 
-/// Forms to be looked at, by their numbers.
-#[derive(Clone, Copy)]
-pub struct Candidates<'a> {
-    pub listed: &'a [u32],
-    /// The first that says, as one of a list of disjoint classes, that two classes are disjoint. The others that say so are not listed.
-    pub pair: Option<u32>,
-}
-
-impl<'a> Candidates<'a> {
-    /// The listed alone.
-    pub fn of(listed: &'a [u32]) -> Candidates<'a>
-        ensures listed { result.listed.now ≡ listed.now }
-        ensures pair { result.pair ≡ None }
-    {
-        Candidates { listed, pair: None }
-    }
-}
-
-/// All intersections that have a class: those that are listed, by the numbers of their forms, and those that say, as ones of a list of
-/// disjoint classes, that it is disjoint with another.
+/// All intersections that have a class, by the numbers of their forms, and the classes that lists of disjoint classes put apart from it.
 #[derive(Clone, Copy)]
 pub struct FewIntersections<'a> {
     /// Those of that first class.
     pub first: &'a [u32],
     /// Those of that second class.
     pub second: &'a [u32],
-    /// The classes with which lists say that it is disjoint.
+    /// The classes that stand with it in lists of disjoint classes.
     pub apart: Apart<'a>,
 }
 
@@ -70,6 +54,7 @@ impl Drop for IndexedProblem {
         let IndexedProblem {
             alloc: _,
             forms: _,
+            apart: _,
             roots: _,
             disjoint: _,
             index: _,
@@ -83,9 +68,9 @@ impl Model for IndexedProblem {
 
     ghost Value = { Problem };
 
-    ghost view = { λ p. record { forms = p.forms; roots = p.roots.items } };
+    ghost view = { λ p. record { forms = p.forms; apart = p.apart; roots = p.roots.items } };
 
-    ghost invariant = { λ p. IsIndexed p.forms p.disjoint p.index };
+    ghost invariant = { λ p. IsIndexed p.forms p.apart.classes p.disjoint p.index };
 }
 
 /// The contexts of the first list, and then those of the second.
@@ -99,44 +84,61 @@ fn joined(alloc: Global, first: &[Context], second: &[Context]) -> Result<Vec<Co
 }
 
 impl IndexedProblem {
-    /// No forms and no contexts.
+    /// No forms, no lists and no contexts.
     pub fn empty(alloc: Global) -> Self
         ensures forms { result.forms ≡ [] }
+        ensures apart { result.apart ≡ no_lists }
         ensures roots { result.roots ≡ [] }
     {
         IndexedProblem {
             alloc,
             forms: FormList::new(alloc),
+            apart: ApartLists::new(alloc),
             roots: Vec::new(alloc),
             disjoint: Disjointness::new(alloc),
             index: nothing_listed(alloc),
         }
     }
 
-    /// The problem of these forms, with these contexts behind its own; the problem itself stays. The memory of a list that is shared
-    /// already is shared. Fails where memory is refused, and where there are 2^32 forms.
-    pub fn grown(&self, forms: &FormList, roots: &[Context]) -> Result<Self, AllocError>
+    /// The problem of these forms and lists, with these contexts behind its own; the problem itself stays. The memory of a list of forms
+    /// that is shared already is shared. Fails where memory is refused, and where there are 2^32 forms, lists or members of lists.
+    pub fn grown(
+        &self,
+        forms: &FormList,
+        apart: &ApartLists,
+        roots: &[Context],
+    ) -> Result<Self, AllocError>
         ensures forms { IfOk result (λ p. p.forms ≡ forms.now) }
+        ensures apart { IfOk result (λ p. p.apart ≡ apart.now) }
         ensures roots { IfOk result (λ p. p.roots ≡ self.now.roots ++ roots.now) }
     {
         let forms = forms.copy()?;
+        let apart = apart.copy(self.alloc)?;
         let roots = joined(self.alloc, &self.roots, roots)?;
-        IndexedProblem::new(self.alloc, forms, roots)
+        IndexedProblem::new(self.alloc, forms, apart, roots)
     }
 
-    /// The problem of these forms, of which there are fewer than 2^32, and roots. Fails where memory is refused.
-    pub fn new(alloc: Global, forms: FormList, roots: Vec<Context>) -> Result<Self, AllocError>
+    /// The problem of these forms, lists and roots. Fails where memory is refused, and where there are 2^32 forms, lists or members of
+    /// lists.
+    pub fn new(
+        alloc: Global,
+        forms: FormList,
+        apart: ApartLists,
+        roots: Vec<Context>,
+    ) -> Result<Self, AllocError>
         ensures forms { IfOk result (λ p. p.forms ≡ forms) }
+        ensures apart { IfOk result (λ p. p.apart ≡ apart) }
         ensures roots { IfOk result (λ p. p.roots ≡ roots.items) }
     {
         if forms.len() > u32::MAX as usize {
             return Err(AllocError);
         }
-        let disjoint = Disjointness::of(alloc, &forms)?;
-        let index = listed(alloc, &forms, disjoint.operands())?;
+        let disjoint = Disjointness::of(alloc, &apart.classes)?;
+        let index = listed(alloc, &forms)?;
         Ok(IndexedProblem {
             alloc,
             forms,
+            apart,
             roots,
             disjoint,
             index,
@@ -148,6 +150,13 @@ impl IndexedProblem {
         ensures { result.now ≡ self.now.forms }
     {
         &self.forms
+    }
+
+    /// The lists of what is apart.
+    pub fn apart(&self) -> &ApartLists
+        ensures { result.now ≡ self.now.apart }
+    {
+        &self.apart
     }
 
     /// The form of that number, if there is one.
@@ -191,8 +200,7 @@ impl IndexedProblem {
         ensures some { result ≡ true → (n : ℕ) × IsUnder by_first self.now.forms (class_key class) n }
         ensures none { result ≡ false → (n : ℕ) → IsUnder by_first self.now.forms (class_key class) n → ⊥ }
     {
-        let key = key_of_class(class);
-        is_used(self.index.first.of(key)) || self.disjoint.begins(key)
+        is_used(self.index.first.of(key_of_class(class)))
     }
 
     /// Whether an intersection has that second class.
@@ -200,18 +208,31 @@ impl IndexedProblem {
         ensures some { result ≡ true → (n : ℕ) × IsUnder by_second self.now.forms (class_key class) n }
         ensures none { result ≡ false → (n : ℕ) → IsUnder by_second self.now.forms (class_key class) n → ⊥ }
     {
-        let key = key_of_class(class);
-        is_used(self.index.second.of(key)) || self.disjoint.ends(key)
+        is_used(self.index.second.of(key_of_class(class)))
     }
 
-    /// The intersections of that class, if at most so many are listed. Those of lists of disjoint classes are not listed: they say with
-    /// which classes it is disjoint.
+    /// Whether a list of disjoint classes has the class.
+    pub fn is_in_list(&self, class: Class2) -> bool
+        ensures yes { result ≡ true → IsInList self.now class }
+        ensures no { result ≡ false → IsInList self.now class → ⊥ }
+    {
+        self.disjoint.has(key_of_class(class))
+    }
+
+    /// The number of a list of disjoint classes that has the two, the first at an earlier place, if there is one.
+    pub fn disjoint_list(&self, first: Class2, second: Class2) -> Option<u32>
+        ensures some { IfSome result (λ l. AreDisjointAt self.now l first second) }
+        ensures none { IsNone result → (l : ℕ) → AreDisjointAt self.now l first second → ⊥ }
+    {
+        self.disjoint
+            .list_of(key_of_class(first), key_of_class(second))
+    }
+
+    /// The intersections of that class, if at most so many, and the classes that are apart from it.
     pub fn few_intersections(&self, class: Class2, most: usize) -> Option<FewIntersections<'_>>
-        ensures first { IfSome result (λ few. HasFirst self.now.forms class few.apart few.first.now) }
-        ensures only_first { IfSome result (λ few. (n : ℕ) → Contains few.first.now n → IsUnder by_first self.now.forms (class_key class) n) }
-        ensures second { IfSome result (λ few. HasSecond self.now.forms class few.apart few.second.now) }
-        ensures only_second { IfSome result (λ few. (n : ℕ) → Contains few.second.now n → IsUnder by_second self.now.forms (class_key class) n) }
-        ensures apart { IfSome result (λ few. (b : Class3) → IsApart few.apart b → AreDisjoint self.now.forms class b) }
+        ensures first { IfSome result (λ few. (n : ℕ) → Contains few.first.now n ↔ IsUnder by_first self.now.forms (class_key class) n) }
+        ensures second { IfSome result (λ few. (n : ℕ) → Contains few.second.now n ↔ IsUnder by_second self.now.forms (class_key class) n) }
+        ensures apart { IfSome result (λ few. (b : Class3) → IsApart few.apart b ↔ AreApart self.now class b) }
     {
         let key = key_of_class(class);
         let first = self.index.first.of(key);
@@ -228,19 +249,15 @@ impl IndexedProblem {
         })
     }
 
-    /// Intersections of that first class, or of that second class, with all that have both: none are listed where those of one of the two
-    /// classes end before those of the other begin, else those of the class that fewer have. Those of lists of disjoint classes are not
-    /// listed; of them there is the first that has both classes, like which the others are.
-    pub fn intersections(&self, first: Class2, second: Class2) -> Candidates<'_>
-        ensures all { (n : ℕ) → IsUnder by_first self.now.forms (class_key first) n → IsUnder by_second self.now.forms (class_key second) n → Contains result.listed.now n ⊎ IsLikeFirst self.now.forms result.pair n }
-        ensures only { (n : ℕ) → Contains result.listed.now n → IsUnder by_first self.now.forms (class_key first) n ⊎ IsUnder by_second self.now.forms (class_key second) n }
-        ensures pair { IfSome result.pair (λ n. IsUnder by_first self.now.forms (class_key first) n × IsUnder by_second self.now.forms (class_key second) n) }
+    /// Intersections of that first class, or of that second class, with all that have both: none where those of one of the two classes end
+    /// before those of the other begin, else those of the class that fewer have.
+    pub fn intersections(&self, first: Class2, second: Class2) -> &[u32]
+        ensures all { (n : ℕ) → IsUnder by_first self.now.forms (class_key first) n → IsUnder by_second self.now.forms (class_key second) n → Contains result.now n }
+        ensures only { (n : ℕ) → Contains result.now n → IsUnder by_first self.now.forms (class_key first) n ⊎ IsUnder by_second self.now.forms (class_key second) n }
     {
         let first = key_of_class(first);
         let second = key_of_class(second);
-        let listed = common(self.index.first.of(first), self.index.second.of(second));
-        let pair = self.disjoint.pair(first, second);
-        Candidates { listed, pair }
+        common(self.index.first.of(first), self.index.second.of(second))
     }
 
     /// The restrictions that need that class at the target of an edge.
@@ -313,13 +330,6 @@ impl IndexedProblem {
         ensures { (n : ℕ) → Contains result.now n ↔ IsUnder by_linked_second self.now.forms (individual_key individual) n }
     {
         self.index.linked_second.of(Key::Whole(individual.0))
-    }
-
-    /// The forms that make two individuals differ.
-    pub fn different(&self) -> &[u32]
-        ensures { (n : ℕ) → Contains result.now n ↔ IsUnder by_kind self.now.forms (keys.Whole 2) n }
-    {
-        self.index.kinds.of(Key::Whole(2))
     }
 
     /// The forms that deny a pair whose source is that individual.

@@ -31,6 +31,7 @@ fn count(counts: &mut Vec<u32>, key: u32) -> Result<(), AllocError>
     ensures { OnOk result (Counts counts.old.items counts.new.items key) }
 {
     reach(counts, key as usize)?;
+    // Not where fewer than 2^32 are counted, as forms and operands are here.
     let Some(more) = counts[key as usize].checked_add(1) else {
         return Err(AllocError);
     };

@@ -25,7 +25,7 @@ mod table;
 pub use apart::Apart;
 pub use disjoint::{Beside, Operand};
 pub use index::Index;
-pub use indexed_problem::{Candidates, FewIntersections, IndexedProblem};
+pub use indexed_problem::{FewIntersections, IndexedProblem};
 pub use keys::Key;
 pub use same_individuals::Groups;
 pub use table::Table;

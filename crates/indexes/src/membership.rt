@@ -1,8 +1,7 @@
 //! Whether a problem has a form.
-ghost use Rattle.std.specs.Prelude.{◌≡◌, ◌↔◌, ◌⊎◌, ℕ, Contains, IsTrue, Some, slice_get};
-ghost use Rattle.indexes.specs.FormsUnderKeys.{IsLikeFirst};
+ghost use Rattle.std.specs.Prelude.{◌≡◌, ◌↔◌, ℕ, Contains, IsTrue, Some, slice_get};
 
-use crate::indexed_problem::{Candidates, IndexedProblem};
+use crate::indexed_problem::IndexedProblem;
 use crate::overlap::shorter;
 use normal_forms::{Form, PropId2};
 
@@ -21,7 +20,6 @@ fn is_same(first: Form, second: Form) -> bool
         (Form::N8(a, b), Form::N8(c, d)) => a == c && b == d,
         (Form::N9(a, r, b), Form::N9(c, s, d)) => a == c && r == s && b == d,
         (Form::N10(a, b), Form::N10(c, d)) => a == c && b == d,
-        (Form::N11(a, b), Form::N11(c, d)) => a == c && b == d,
         (Form::N12(a, r, b), Form::N12(c, s, d)) => a == c && r == s && b == d,
         _ => false,
     }
@@ -38,40 +36,33 @@ fn is_at(problem: &IndexedProblem, number: u32, form: Form) -> bool
 }
 
 /// Forms among which each is that is equal to this one: those with a class, a property or an individual in the same role.
-fn like(problem: &IndexedProblem, form: Form) -> Candidates<'_>
-    ensures { (n : ℕ) → slice_get problem.now.forms n ≡ Some form → Contains result.listed.now n ⊎ IsLikeFirst problem.now.forms result.pair n }
+fn like(problem: &IndexedProblem, form: Form) -> &[u32]
+    ensures { (n : ℕ) → slice_get problem.now.forms n ≡ Some form → Contains result.now n }
 {
     match form {
-        Form::N1(a, _) | Form::N3(a, _, _) => Candidates::of(problem.alone(a)),
+        Form::N1(a, _) | Form::N3(a, _, _) => problem.alone(a),
         Form::N2(a, b, _) => problem.intersections(a, b),
-        Form::N4(r, a, _) => Candidates::of(problem.restrictions(PropId2::Property(r), a)),
-        Form::N5(r, _) => Candidates::of(problem.plain_from(PropId2::Property(r))),
-        Form::N6(r, s, _) => Candidates::of(problem.chains(r, s)),
-        Form::N7(_) => Candidates::of(problem.reflexive()),
-        Form::N8(..) | Form::N9(..) => Candidates::of(problem.given()),
-        Form::N10(a, b) => {
-            Candidates::of(shorter(problem.linked_first(a), problem.linked_second(b)))
-        }
-        Form::N11(..) => Candidates::of(problem.different()),
-        Form::N12(a, _, b) => Candidates::of(problem.denied_between(a, b)),
+        Form::N4(r, a, _) => problem.restrictions(PropId2::Property(r), a),
+        Form::N5(r, _) => problem.plain_from(PropId2::Property(r)),
+        Form::N6(r, s, _) => problem.chains(r, s),
+        Form::N7(_) => problem.reflexive(),
+        Form::N8(..) | Form::N9(..) => problem.given(),
+        Form::N10(a, b) => shorter(problem.linked_first(a), problem.linked_second(b)),
+        Form::N12(a, _, b) => problem.denied_between(a, b),
     }
 }
 
 impl IndexedProblem {
-    /// Whether one of the forms is equal to this one. It looks at those with a class, a property or an individual in the same role, for an
-    /// assertion at all assertions, and for two individuals that differ at all forms that say so.
+    /// Whether one of the forms is equal to this one. It looks at those with a class, a property or an individual in the same role, and for
+    /// an assertion at all assertions.
     pub fn has(&self, form: Form) -> bool
         ensures { IsTrue result ↔ Contains self.now.forms form }
     {
-        let like = like(self, form);
-        for number in like.listed {
+        for number in like(self, form) {
             if is_at(self, *number, form) {
                 return true;
             }
         }
-        match like.pair {
-            Some(number) => is_at(self, number, form),
-            None => false,
-        }
+        false
     }
 }

@@ -3,7 +3,7 @@
 /// One of a kind for each role that a key has to a form.
 #[derive(Drop)]
 pub(crate) struct ByRole<T> {
-    /// By 0 where the form gives a fact from none, 1 where it makes a property reflexive, 2 where it makes two individuals differ.
+    /// By 0 where the form gives a fact from none, 1 where it makes a property reflexive.
     pub kinds: T,
     /// By the class that the form needs alone.
     pub alone: T,

@@ -45,16 +45,10 @@ fn links_of(alloc: Global, forms: &FormList) -> Result<FormList, AllocError>
     ensures { IfOk result (λ list. list ≡ links forms.now) }
 {
     let mut kept = FormList::new(alloc);
-    let mut number = 0;
-    while number < forms.len() {
-        if let Some(disjoint) = forms.disjoint_from(number) {
-            number = disjoint.end;
-        } else {
-            let form = forms.at(number);
-            if makes_one(&form) {
-                kept.push(form)?;
-            }
-            number += 1;
+    for number in 0..forms.len() {
+        let form = forms.at(number);
+        if makes_one(&form) {
+            kept.push(form)?;
         }
     }
     Ok(kept)

@@ -55,6 +55,7 @@ fn begin(alloc: Global, lists: &mut Vec<NumberList>, number: u32) -> Result<u32,
     ensures err { OnErr result (lists.new.items ≡ lists.old.items) }
 {
     let count = lists.len();
+    // Not where fewer than 2^32 keys have had a number: each list is of another key.
     if count >= u32::MAX as usize {
         return Err(AllocError);
     }

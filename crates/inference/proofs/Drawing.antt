@@ -8,12 +8,14 @@ use Rattle.normal_forms.specs.declared.forms.Form.{Form}
 use Rattle.facts.specs.declared.contexts.Context.{Context}
 use Rattle.facts.specs.declared.contexts.Context.TheVariants.{Expr}
 use Rattle.facts.specs.declared.contexts.Fact.{Fact}
-use Rattle.facts.specs.Closure.{Problem, IsContextBy, in_thing, in_itself, by_form, unsatisfiable, loop, handed_on, different}
+use Rattle.facts.specs.declared.contexts.Fact.TheVariants.{In}
+use Rattle.facts.specs.Closure.{Problem, IsContextBy, in_thing, in_itself, by_form, unsatisfiable, loop, handed_on, different, apart}
 use Rattle.inference.specs.declared.rules.Rules.{Rules}
 use Rattle.inference.specs.Derivations.{Derived, Grows}
 use Rattle.inference.specs.Draws.{Draws}
 use Rattle.inference.specs.Visits.{AreWithin}
 use Rattle.inference.specs.Entry.{LoopIsDrawn}
+use Rattle.inference.specs.Partings.{IsPartingDrawn}
 use Rattle.inference.specs.Sameness.{AreDifferencesDrawn, IsHandedOn}
 use Rattle.inference.specs.Completeness.{AreConcluded, AreRedundant, IsContextAt, AllDrawn, DrawnAt, DrawnUpToRedundancy, ForEach, IsEntered, IsOwed, Drawn, MeetEachOther, AreMet, AreMetBefore}
 use Rattle.inference.proofs.Growth.{there_still}
@@ -62,31 +64,33 @@ concluded_still s older all = record { forms = all_still s _ _ all.forms; back =
 -- what the forms give, owl:Nothing carried back, what is in each context, and what there is of individuals that are one are all that facts give,
 -- but for loops that are owed
 pub drawn : (k : Problem) (older : List Fact) (d : Derived) → ((form : Option ℕ) (f : Fact) → IsOwed k d f → AreRedundant k d older form f) → AreConcluded k older d.facts → ((x : Context) → IsContextBy k older x → IsEntered k x d)
-    → ((g : Fact) → older ≡ g ∷ [] → IsHandedOn k g d.facts) → (older ≡ [] → AreDifferencesDrawn k d.facts) → DrawnUpToRedundancy k older d
-drawn k older d owed all enter hand differ _ _ _ (in_thing {x = x} c) = inl ((enter x c).top)
-drawn k older d owed all enter hand differ _ _ _ (in_itself {e = e} c) = inl ((enter (Expr e) c).itself e refl)
-drawn k older d owed all enter hand differ _ _ _ (by_form {f = f} n form at gives) = inl (all.forms form (Contains-from_slice_get k.forms n form at) f gives)
-drawn k older d owed all enter hand differ _ _ _ (unsatisfiable {f = f} b) = inl (all.back f b)
-drawn k older d owed all enter hand differ _ _ _ (loop {f = f} x n form at l c) =
+    → ((g : Fact) → older ≡ g ∷ [] → IsHandedOn k g d.facts) → (older ≡ [] → AreDifferencesDrawn k d.facts) → ((g h : Fact) → older ≡ g ∷ h ∷ [] → IsPartingDrawn k g h d.facts) → DrawnUpToRedundancy k older d
+drawn k older d owed all enter hand differ part _ _ _ (in_thing {x = x} c) = inl ((enter x c).top)
+drawn k older d owed all enter hand differ part _ _ _ (in_itself {e = e} c) = inl ((enter (Expr e) c).itself e refl)
+drawn k older d owed all enter hand differ part _ _ _ (by_form {f = f} n form at gives) = inl (all.forms form (Contains-from_slice_get k.forms n form at) f gives)
+drawn k older d owed all enter hand differ part _ _ _ (unsatisfiable {f = f} b) = inl (all.back f b)
+drawn k older d owed all enter hand differ part _ _ _ (loop {f = f} x n form at l c) =
     let there = Contains-from_slice_get k.forms n form at in
     ⊎_elim (λ w. inl w) (λ entry. inr (owed (Some n) f (record { context = x; form = form; there = there; is_loop = l; entry = entry }))) ((enter x c).loops form there f l)
-drawn k _ d owed all enter hand differ _ _ _ (handed_on {g = g} {f = f} n form at h) = inl (hand g refl form (Contains-from_slice_get k.forms n form at) f h)
-drawn k _ d owed all enter hand differ _ _ _ (different n a b at same) = inl (differ refl n a b at same)
+drawn k _ d owed all enter hand differ part _ _ _ (handed_on {g = g} {f = f} n form at h) = inl (hand g refl form (Contains-from_slice_get k.forms n form at) f h)
+drawn k _ d owed all enter hand differ part _ _ _ (different l a b at same) = inl (differ refl l a b at same)
+drawn k _ d owed all enter hand differ part _ _ _ (apart l a b x w) = inl (part (In a x) (In b x) refl l a b x w refl refl)
 
 -- two facts make no context one, and hand nothing on
-pub drawn_by_two : (k : Problem) (g h : Fact) (facts : List Fact) → AreConcluded k (g ∷ h ∷ []) facts → Drawn k (g ∷ h ∷ []) facts
-drawn_by_two k g h facts all _ _ _ (in_thing c) = absurd c
-drawn_by_two k g h facts all _ _ _ (in_itself c) = absurd c
-drawn_by_two k g h facts all _ _ f (by_form n form at gives) = all.forms form (Contains-from_slice_get k.forms n form at) f gives
-drawn_by_two k g h facts all _ _ f (unsatisfiable b) = all.back f b
-drawn_by_two k g h facts all _ _ _ (loop x n form at l c) = absurd c
+pub drawn_by_two : (k : Problem) (g h : Fact) (facts : List Fact) → AreConcluded k (g ∷ h ∷ []) facts → IsPartingDrawn k g h facts → Drawn k (g ∷ h ∷ []) facts
+drawn_by_two k g h facts all part _ _ _ (in_thing c) = absurd c
+drawn_by_two k g h facts all part _ _ _ (in_itself c) = absurd c
+drawn_by_two k g h facts all part _ _ f (by_form n form at gives) = all.forms form (Contains-from_slice_get k.forms n form at) f gives
+drawn_by_two k g h facts all part _ _ f (unsatisfiable b) = all.back f b
+drawn_by_two k g h facts all part _ _ _ (loop x n form at l c) = absurd c
+drawn_by_two k _ _ facts all part _ _ _ (apart l a b x w) = part l a b x w refl refl
 
 -- one fact is no other
 pub one_in_hand : (P : Fact → Type 0) (f g : Fact) → f ∷ [] ≡ g ∷ [] → P f → P g
 one_in_hand P f g e p = let same : f ≡ g = cc in subst P same p
 
 pub differences_still : {k : Problem} {most : ℕ} {a b : Derived} → Grows k most a b → AreDifferencesDrawn k a.facts → AreDifferencesDrawn k b.facts
-differences_still s drawn n a b at same = there_still s _ (drawn n a b at same)
+differences_still s drawn l a b at same = there_still s _ (drawn l a b at same)
 
 pub drawn_still : {k : Problem} {most : ℕ} {a b : Derived} → Grows k most a b → (older : List Fact) → Drawn k older a.facts → Drawn k older b.facts
 drawn_still s older drawn condition form f gives = there_still s f (drawn condition form f gives)

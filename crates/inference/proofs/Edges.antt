@@ -4,12 +4,12 @@ use Rattle.std.proofs.lemmas.Option.{none-some, same_Some, slice_get_within}
 use Rattle.normal_forms.specs.declared.forms.Class2.{Class2}
 use Rattle.normal_forms.specs.declared.forms.PropId2.{PropId2}
 use Rattle.normal_forms.specs.declared.forms.Form.{Form}
-use Rattle.normal_forms.specs.declared.forms.Form.TheVariants.{N1, N2, N3, N4, N5, N6, N7, N8, N9, N10, N11, N12}
+use Rattle.normal_forms.specs.declared.forms.Form.TheVariants.{N1, N2, N3, N4, N5, N6, N7, N8, N9, N10, N12}
 use Rattle.facts.specs.declared.contexts.Context.{Context}
 use Rattle.facts.specs.declared.contexts.Context.TheVariants.{Individual}
 use Rattle.facts.specs.declared.contexts.Fact.{Fact}
 use Rattle.facts.specs.declared.contexts.Fact.TheVariants.{In, Edge}
-use Rattle.facts.specs.Closure.{Problem, FromNone, FromOne, FromTwo, Concludes, Carries, CarriesBack, HandsOn, class, source, target, IsLoop, Gives, in_thing, in_itself, by_form, unsatisfiable, loop, handed_on, different}
+use Rattle.facts.specs.Closure.{Problem, FromNone, FromOne, FromTwo, Concludes, Carries, CarriesBack, HandsOn, class, source, target, IsLoop, Gives, in_thing, in_itself, by_form, unsatisfiable, loop, handed_on, different, apart}
 use Rattle.property_closure.specs.PropertyClosures.{Known, Has}
 use Rattle.inference.specs.PropertyClosures.{PutsOnEdges, IsClosureOf}
 use Rattle.inference.specs.Derivations.{Derived, IsDerived}
@@ -28,7 +28,6 @@ none (N8 i a) (Edge x r y) w = absurd (cc)
 none (N9 i r j) (In _ _) w = tt
 none (N9 i r j) (Edge x p y) w = cc
 none (N10 _ _) f w = absurd w
-none (N11 _ _) f w = absurd w
 none (N12 _ _ _) f w = absurd w
 none (N1 _ _) f w = absurd w
 none (N2 _ _ _) f w = absurd w
@@ -53,7 +52,6 @@ one k (N7 _) g f w = absurd w
 one k (N8 _ _) g f w = absurd w
 one k (N9 _ _ _) g f w = absurd w
 one k (N10 _ _) g f w = absurd w
-one k (N11 _ _) g f w = absurd w
 one k (N12 a r b) (Edge x q y) (In _ _) w = tt
 one k (N12 a r b) (Edge x q y) (Edge u p v) w = let e = w.3 in absurd (cc)
 one k (N12 a r b) (In _ _) f w = absurd w
@@ -78,7 +76,6 @@ two k (N7 _) g h f w = absurd w
 two k (N8 _ _) g h f w = absurd w
 two k (N9 _ _ _) g h f w = absurd w
 two k (N10 _ _) g h f w = absurd w
-two k (N11 _ _) g h f w = absurd w
 two k (N12 _ _ _) g h f w = absurd w
 
 concludes : (k : Problem) (form : Form) (older : List Fact) (f : Fact) → Concludes k form older f → IsPutBy form f
@@ -110,7 +107,6 @@ loops z (N6 _ _ _) f w = absurd w
 loops z (N8 _ _) f w = absurd w
 loops z (N9 _ _ _) f w = absurd w
 loops z (N10 _ _) f w = absurd w
-loops z (N11 _ _) f w = absurd w
 loops z (N12 _ _ _) f w = absurd w
 
 -- what is handed on keeps its property
@@ -139,7 +135,8 @@ module _ (k : Problem) {closure : Known} (closed : IsClosureOf k.forms closure) 
   given {older = older} {f = f} (unsatisfiable b) before x r y e = absurd (back older f b x r y e)
   given {f = f} (loop z n form at l c) before x r y e = at_edge n form f at (loops z form f l) x r y e
   given (handed_on {g = g} n form at h) before x r y e = let w = hands h x r y e in before g refl w.0 r w.1 w.2
-  given (different n a b at same) before x r y e = absurd (cc)
+  given (different l a b at same) before x r y e = absurd (cc)
+  given (apart l a b z w) before x r y e = absurd (cc)
 
   edge_below : {d : Derived} → IsDerived k d → (bound n : ℕ) (f : Fact) → n < bound → slice_get d.facts n ≡ Some f → (x : Context) (r : PropId2) (y : Context) → f ≡ Edge x r y → Has closure r
   edge_below {d} s zero n f low at x r y e = absurd (omega arith)

@@ -1,26 +1,41 @@
 -- Facts that give nothing with one another.
 use Rattle.std.proofs.Common.{◌≡◌, ℕ, [], ◌∷◌, slice_get, Some, refl, sym, ap, subst}
 use Rattle.normal_forms.specs.declared.forms.Form.{Form}
-use Rattle.normal_forms.specs.declared.forms.Form.TheVariants.{N1, N2, N3, N4, N5, N6, N7, N8, N9, N10, N11, N12}
+use Rattle.normal_forms.specs.declared.forms.Form.TheVariants.{N1, N2, N3, N4, N5, N6, N7, N8, N9, N10, N12}
 use Rattle.normal_forms.specs.declared.forms.Class2.{Class2}
 use Rattle.normal_forms.specs.declared.forms.PropId2.{PropId2}
 use Rattle.normal_forms.specs.Properties.{IsAtOrBelow}
 use Rattle.facts.specs.declared.contexts.Context.{Context}
 use Rattle.facts.specs.declared.contexts.Fact.{Fact}
 use Rattle.facts.specs.declared.contexts.Fact.TheVariants.{In, Edge}
-use Rattle.facts.specs.Closure.{Problem, FromTwo, Carries, in_thing, in_itself, by_form, unsatisfiable, loop, nothing}
+use Rattle.facts.specs.Closure.{Problem, AreDisjointAt, FromTwo, Carries, in_thing, in_itself, by_form, unsatisfiable, loop, apart, nothing}
 use Rattle.indexes.specs.Keys.{class_key, property_key, by_first, by_second, by_filler, by_chain}
-use Rattle.inference.specs.Visits.{GiveNothing, NoneUnder, IsEdge, IsBy, IsNotCarried}
+use Rattle.inference.specs.Visits.{GiveNothing, NoneUnder, IsEdge, IsBy, IsNotCarried, IsOfClasses}
 use Rattle.inference.specs.Derivations.{Derived}
 use Rattle.inference.specs.Completeness.{DrawnUpToRedundancy}
 
--- two facts give something by a form, or owl:Nothing is carried back
-pub by_form_or_back : (k : Problem) (f g : Fact) → ((n : ℕ) (form : Form) (h : Fact) → slice_get k.forms n ≡ Some form → FromTwo k form f g h → ⊥) → ((h : Fact) → Carries f g h → ⊥) → GiveNothing k f g
-by_form_or_back k f g forms back _ _ h (in_thing c) = c
-by_form_or_back k f g forms back _ _ h (in_itself c) = c
-by_form_or_back k f g forms back _ _ h (by_form n form at gives) = forms n form h at gives
-by_form_or_back k f g forms back _ _ h (unsatisfiable b) = back h b
-by_form_or_back k f g forms back _ _ h (loop x n form at l c) = c
+-- two facts give something by a form, or owl:Nothing is carried back, or a list of disjoint classes has the two that they put into a context
+by_form_back_or_list : (k : Problem) (f g : Fact) → ((n : ℕ) (form : Form) (h : Fact) → slice_get k.forms n ≡ Some form → FromTwo k form f g h → ⊥) → ((h : Fact) → Carries f g h → ⊥)
+    → ((l : ℕ) (a b : Class2) (x : Context) → AreDisjointAt k l a b → f ≡ In a x → g ≡ In b x → ⊥) → GiveNothing k f g
+by_form_back_or_list k f g forms back lists _ _ h (in_thing c) = c
+by_form_back_or_list k f g forms back lists _ _ h (in_itself c) = c
+by_form_back_or_list k f g forms back lists _ _ h (by_form n form at gives) = forms n form h at gives
+by_form_back_or_list k f g forms back lists _ _ h (unsatisfiable b) = back h b
+by_form_back_or_list k f g forms back lists _ _ h (loop x n form at l c) = c
+by_form_back_or_list k _ _ forms back lists _ _ _ (apart l a b x w) = lists l a b x w refl refl
+
+-- an edge and another fact by a form, or owl:Nothing is carried back
+pub by_form_or_back : (k : Problem) (f g : Fact) → IsEdge f → ((n : ℕ) (form : Form) (h : Fact) → slice_get k.forms n ≡ Some form → FromTwo k form f g h → ⊥) → ((h : Fact) → Carries f g h → ⊥) → GiveNothing k f g
+by_form_or_back k f g is forms back = by_form_back_or_list k f g forms back (λ l a b x w e _. subst IsEdge e is)
+
+-- two classes in contexts by an intersection, or by a list of disjoint classes
+pub by_form_or_list : (k : Problem) (a b : Class2) (x y : Context) → ((n : ℕ) (form : Form) (h : Fact) → slice_get k.forms n ≡ Some form → FromTwo k form (In a x) (In b y) h → ⊥) → ((l : ℕ) → AreDisjointAt k l a b → ⊥)
+    → GiveNothing k (In a x) (In b y)
+by_form_or_list k a b x y forms lists = by_form_back_or_list k (In a x) (In b y) forms (λ h c. c)
+    (λ l c d z w e f. lists l (subst (λ (p : Class2). AreDisjointAt k l p b) (sym (one_class a c x z e)) (subst (λ (q : Class2). AreDisjointAt k l c q) (sym (one_class b d y z f)) w)))
+  where
+    one_class : (p q : Class2) (u v : Context) → In p u ≡ In q v → p ≡ q
+    one_class p q u v e = cc
 
 -- a form that gives something from two classes in a context has them as operands
 pub first_operand : (k : Problem) (form : Form) (a b : Class2) (x y : Context) (h : Fact) → FromTwo k form (In a x) (In b y) h → by_first form ≡ Some (class_key a)
@@ -34,7 +49,6 @@ first_operand k (N7 _) a b x y h w = absurd w
 first_operand k (N8 _ _) a b x y h w = absurd w
 first_operand k (N9 _ _ _) a b x y h w = absurd w
 first_operand k (N10 _ _) a b x y h w = absurd w
-first_operand k (N11 _ _) a b x y h w = absurd w
 first_operand k (N12 _ _ _) a b x y h w = absurd w
 
 pub second_operand : (k : Problem) (form : Form) (a b : Class2) (x y : Context) (h : Fact) → FromTwo k form (In a x) (In b y) h → by_second form ≡ Some (class_key b)
@@ -48,7 +62,6 @@ second_operand k (N7 _) a b x y h w = absurd w
 second_operand k (N8 _ _) a b x y h w = absurd w
 second_operand k (N9 _ _ _) a b x y h w = absurd w
 second_operand k (N10 _ _) a b x y h w = absurd w
-second_operand k (N11 _ _) a b x y h w = absurd w
 second_operand k (N12 _ _ _) a b x y h w = absurd w
 
 -- from an edge and a class at its target, the class as its filler
@@ -63,7 +76,6 @@ filler k (N7 _) x y z r c h w = absurd w
 filler k (N8 _ _) x y z r c h w = absurd w
 filler k (N9 _ _ _) x y z r c h w = absurd w
 filler k (N10 _ _) x y z r c h w = absurd w
-filler k (N11 _ _) x y z r c h w = absurd w
 filler k (N12 _ _ _) x y z r c h w = absurd w
 
 -- from two edges, a property at or above that of the first
@@ -78,22 +90,18 @@ prefix k (N7 _) x y z v p q h w = absurd w
 prefix k (N8 _ _) x y z v p q h w = absurd w
 prefix k (N9 _ _ _) x y z v p q h w = absurd w
 prefix k (N10 _ _) x y z v p q h w = absurd w
-prefix k (N11 _ _) x y z v p q h w = absurd w
 prefix k (N12 _ _ _) x y z v p q h w = absurd w
 
 -- ---- pairs of facts that give nothing
 
-pub no_first : (k : Problem) (a b : Class2) (x y : Context) → NoneUnder by_first k.forms (class_key a) → GiveNothing k (In a x) (In b y)
-no_first k a b x y none = by_form_or_back k (In a x) (In b y) (λ n form h at w. none n (form, at, first_operand k form a b x y h w)) (λ h c. c)
-
-pub no_second : (k : Problem) (a b : Class2) (x y : Context) → NoneUnder by_second k.forms (class_key b) → GiveNothing k (In a x) (In b y)
-no_second k a b x y none = by_form_or_back k (In a x) (In b y) (λ n form h at w. none n (form, at, second_operand k form a b x y h w)) (λ h c. c)
+pub no_classes : (k : Problem) (a b : Class2) (x y : Context) → ((n : ℕ) → IsOfClasses k.forms a b n → ⊥) → ((l : ℕ) → AreDisjointAt k l a b → ⊥) → GiveNothing k (In a x) (In b y)
+no_classes k a b x y none lists = by_form_or_list k a b x y (λ n form h at w. none n ((form, at, first_operand k form a b x y h w), (form, at, second_operand k form a b x y h w))) lists
 
 no_filler : (k : Problem) (x y z : Context) (r : PropId2) (c : Class2) → (c ≡ nothing → ⊥) → NoneUnder by_filler k.forms (class_key c) → GiveNothing k (Edge x r y) (In c z)
-no_filler k x y z r c other none = by_form_or_back k (Edge x r y) (In c z) (λ n form h at w. none n (form, at, filler k form x y z r c h w)) (λ h b. other b.0)
+no_filler k x y z r c other none = by_form_or_back k (Edge x r y) (In c z) tt (λ n form h at w. none n (form, at, filler k form x y z r c h w)) (λ h b. other b.0)
 
 no_chain : (k : Problem) (x y z v : Context) (p q : PropId2) → ((r : PropId2) → IsAtOrBelow k.forms p r → NoneUnder by_chain k.forms (property_key r)) → GiveNothing k (Edge x p y) (Edge z q v)
-no_chain k x y z v p q none = by_form_or_back k (Edge x p y) (Edge z q v) (λ n form h at w. let b = prefix k form x y z v p q h w in none b.0 b.1 n (form, at, b.2)) (λ h b. b)
+no_chain k x y z v p q none = by_form_or_back k (Edge x p y) (Edge z q v) tt (λ n form h at w. let b = prefix k form x y z v p q h w in none b.0 b.1 n (form, at, b.2)) (λ h b. b)
 
 pub uncarried : (k : Problem) (c : Class2) (z : Context) → (c ≡ nothing → ⊥) → NoneUnder by_filler k.forms (class_key c) → IsNotCarried k (In c z)
 uncarried k c z other none (In b y) is = absurd is

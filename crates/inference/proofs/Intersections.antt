@@ -1,18 +1,21 @@
 -- What intersections give from the classes in a context.
-use Rattle.std.proofs.Common.{◌≡◌, ◌∙◌, ⊎_elim, ℕ, List, [], ◌∷◌, slice_get, Some, Contains, inl, refl, sym, ap, ap₂, subst}
+use Rattle.std.proofs.Common.{◌≡◌, ⊎_elim, ℕ, List, [], ◌∷◌, slice_get, Some, Contains, inl, inr, refl, sym, ap, ap₂, subst}
 use Rattle.normal_forms.specs.declared.forms.Form.{Form}
-use Rattle.normal_forms.specs.declared.forms.Form.TheVariants.{N1, N2, N3, N4, N5, N6, N7, N8, N9, N10, N11, N12}
+use Rattle.normal_forms.specs.declared.forms.Form.TheVariants.{N1, N2, N3, N4, N5, N6, N7, N8, N9, N10, N12}
 use Rattle.normal_forms.specs.declared.forms.Class2.{Class2}
 use Rattle.facts.specs.declared.contexts.Context.{Context}
 use Rattle.facts.specs.declared.contexts.Fact.{Fact}
 use Rattle.facts.specs.declared.contexts.Fact.TheVariants.{In, Edge}
-use Rattle.facts.specs.Closure.{Problem, FromTwo, nothing, in_thing, in_itself, by_form, unsatisfiable, loop}
+use Rattle.facts.specs.Closure.{Problem, AreDisjointAt, FromTwo, Gives, nothing, in_thing, in_itself, by_form, unsatisfiable, loop, apart}
 use Rattle.indexes.specs.declared.apart.Apart.{Apart}
-use Rattle.indexes.specs.Apart.{AreDisjoint, HasFirst, HasSecond, IsApart}
+use Rattle.indexes.specs.Apart.{AreApart, IsApart}
+use Rattle.indexes.specs.FormsUnderKeys.{IsUnder}
+use Rattle.indexes.specs.Keys.{by_first, by_second, class_key}
 use Rattle.inference.specs.Derivations.{Derived, Grows}
 use Rattle.inference.specs.Visits.{IsClassFact}
 use Rattle.inference.specs.Completeness.{Drawn, IsDrawnFrom, IsDrawnIn, MeetsOperands, MeetEachOther, DrawnUpToRedundancy}
 use Rattle.inference.proofs.Drawing.{drawn_at_still}
+use Rattle.inference.proofs.Giving.{first_operand, second_operand}
 use Rattle.inference.proofs.Growth.{there_still}
 use Rattle.inference.proofs.Lists.{one_value}
 
@@ -28,7 +31,6 @@ intersection k (N7 _) a b x y h w = absurd w
 intersection k (N8 _ _) a b x y h w = absurd w
 intersection k (N9 _ _ _) a b x y h w = absurd w
 intersection k (N10 _ _) a b x y h w = absurd w
-intersection k (N11 _ _) a b x y h w = absurd w
 intersection k (N12 _ _ _) a b x y h w = absurd w
 
 same_first : (a b c p q r : Class2) → N2 a b c ≡ N2 p q r → a ≡ p
@@ -70,48 +72,37 @@ operands_met_still s old firsts seconds x met = record {
   second = λ n there. drawn_in_still s old x n (met.second n there);
 }
 
--- two classes give nothing but by intersections
-pub by_intersections : (k : Problem) (a b : Class2) (x y : Context) (new : Derived) → ((n : ℕ) (form : Form) (h : Fact) → slice_get k.forms n ≡ Some form → FromTwo k form (In a x) (In b y) h → Contains new.facts h) → DrawnUpToRedundancy k (In a x ∷ In b y ∷ []) new
-by_intersections k a b x y new forms _ _ h (in_thing c) = absurd c
-by_intersections k a b x y new forms _ _ h (in_itself c) = absurd c
-by_intersections k a b x y new forms _ _ h (by_form n form at gives) = inl (forms n form h at gives)
-by_intersections k a b x y new forms _ _ h (unsatisfiable b') = absurd b'
-by_intersections k a b x y new forms _ _ h (loop z n form at l c) = absurd c
-
-same_conclusion : (k : Problem) (a b c : Class2) (x y : Context) (h : Fact) → FromTwo k (N2 a b c) (In a x) (In b y) h → h ≡ In c x
-same_conclusion k a b c x y h w = w.3
+-- two classes give nothing but by intersections and by lists of disjoint classes
+pub by_intersections : (k : Problem) (a b : Class2) (x y : Context) (new : Derived) → ((n : ℕ) (form : Form) (h : Fact) → slice_get k.forms n ≡ Some form → FromTwo k form (In a x) (In b y) h → Contains new.facts h)
+    → ((l : ℕ) → AreDisjointAt k l a b → x ≡ y → Contains new.facts (In nothing x)) → DrawnUpToRedundancy k (In a x ∷ In b y ∷ []) new
+by_intersections k a b x y new forms lists _ _ h (in_thing c) = absurd c
+by_intersections k a b x y new forms lists _ _ h (in_itself c) = absurd c
+by_intersections k a b x y new forms lists _ _ h (by_form n form at gives) = inl (forms n form h at gives)
+by_intersections k a b x y new forms lists _ _ h (unsatisfiable b') = absurd b'
+by_intersections k a b x y new forms lists _ _ h (loop z n form at l c) = absurd c
+by_intersections k _ _ _ _ new forms lists _ _ _ (apart l a b x w) = inl (lists l w refl)
 
 -- so a class has met another where it has met its operands, and where owl:Nothing is in the context if the two are apart
-pub met_by_operands : (k : Problem) (old : List Fact) (a : Class2) (x : Context) (g : Fact) (new : Derived) (firsts seconds : List ℕ) (apart : Apart) → IsClassFact g → Contains old (In a x) → Contains old g
-    → HasFirst k.forms a apart firsts → HasSecond k.forms a apart seconds
-    → MeetsOperands k old firsts seconds x new.facts → ((b : Class2) → g ≡ In b x → IsApart apart b → Contains new.facts (In nothing x)) → MeetEachOther k (In a x) g new
-met_by_operands k old a x (In b y) new firsts seconds apart is ina inb begin end met parted = record {
-  first = by_intersections k a b x y new (λ n form h at w.
-      let i = intersection k form a b x y h w in
-      let same = i.2 in
-      ⊎_elim
-      (λ there. met.first n there a b ina (subst (λ z. Contains old (In b z)) (sym same) inb) form at h (subst (λ z. FromTwo k form (In a x) (In b z) h) (sym same) w))
-      (λ said.
-      let is_h = same_conclusion k a b i.0 x y h (subst (λ f. FromTwo k f (In a x) (In b y) h) i.1 w) in
-      let nothing_there = parted b (ap (λ z. In b z) (sym same)) said.0 in
-      subst (λ f. Contains new.facts f) (sym (is_h ∙ ap (λ c. In c x) said.1)) nothing_there)
-      (begin n b i.0 (subst (λ f. slice_get k.forms n ≡ Some f) i.1 at)));
-  second = by_intersections k b a y x new (λ n form h at w.
-      let i = intersection k form b a y x h w in
-      let same = i.2 in
-      ⊎_elim
-      (λ there. met.second n there b a (subst (λ z. Contains old (In b z)) same inb) ina form at h (subst (λ z. FromTwo k form (In b z) (In a x) h) same w))
-      (λ said.
-      let is_h = same_conclusion k b a i.0 y x h (subst (λ f. FromTwo k f (In b y) (In a x) h) i.1 w) in
-      let nothing_there = parted b (ap (λ z. In b z) same) said.0 in
-      subst (λ f. Contains new.facts f) (sym (is_h ∙ ap (λ c. In c y) said.1 ∙ ap (λ z. In nothing z) same)) nothing_there)
-      (end n b i.0 (subst (λ f. slice_get k.forms n ≡ Some f) i.1 at)));
+pub met_by_operands : (k : Problem) (old : List Fact) (a : Class2) (x : Context) (g : Fact) (new : Derived) (firsts seconds : List ℕ) (beside : Apart) → IsClassFact g → Contains old (In a x) → Contains old g
+    → ((n : ℕ) → IsUnder by_first k.forms (class_key a) n → Contains firsts n) → ((n : ℕ) → IsUnder by_second k.forms (class_key a) n → Contains seconds n) → ((b : Class2) → AreApart k a b → IsApart beside b)
+    → MeetsOperands k old firsts seconds x new.facts → ((b : Class2) → g ≡ In b x → IsApart beside b → Contains new.facts (In nothing x)) → MeetEachOther k (In a x) g new
+met_by_operands k old a x (In b y) new firsts seconds beside is ina inb begin end all met parted = record {
+  first = by_intersections k a b x y new
+      (λ n form h at w.
+      let same = (intersection k form a b x y h w).2 in
+      met.first n (begin n (form, at, first_operand k form a b x y h w)) a b ina (subst (λ z. Contains old (In b z)) (sym same) inb) form at h (subst (λ z. FromTwo k form (In a x) (In b z) h) (sym same) w))
+      (λ l w same. parted b (ap (λ z. In b z) (sym same)) (all b (l, inl w)));
+  second = by_intersections k b a y x new
+      (λ n form h at w.
+      let same = (intersection k form b a y x h w).2 in
+      met.second n (end n (form, at, second_operand k form b a y x h w)) b a (subst (λ z. Contains old (In b z)) same inb) ina form at h (subst (λ z. FromTwo k form (In b z) (In a x) h) same w))
+      (λ l w same. subst (λ z. Contains new.facts (In nothing z)) (sym same) (parted b (ap (λ z. In b z) same) (all b (l, inr w))));
 }
-met_by_operands k old a x (Edge y r z) new firsts seconds apart is ina inb begin end met parted = absurd is
+met_by_operands k old a x (Edge y r z) new firsts seconds beside is ina inb begin end all met parted = absurd is
 
--- owl:Nothing is where both orders of two disjoint classes are drawn
-pub nothing_drawn : (k : Problem) (a b : Class2) (x : Context) (facts : List Fact) → AreDisjoint k.forms a b → Drawn k (In a x ∷ In b x ∷ []) facts → Drawn k (In b x ∷ In a x ∷ []) facts → Contains facts (In nothing x)
+-- owl:Nothing is where both orders of two classes that are apart are drawn
+pub nothing_drawn : (k : Problem) (a b : Class2) (x : Context) (facts : List Fact) → AreApart k a b → Drawn k (In a x ∷ In b x ∷ []) facts → Drawn k (In b x ∷ In a x ∷ []) facts → Contains facts (In nothing x)
 nothing_drawn k a b x facts w one other = ⊎_elim
-    (λ at. one 5 (Some w.0) (In nothing x) (by_form w.0 (N2 a b nothing) at (refl, refl, refl, refl)))
-    (λ at. other 5 (Some w.0) (In nothing x) (by_form w.0 (N2 b a nothing) at (refl, refl, refl, refl)))
+    (λ at. one 14 (Some w.0) (In nothing x) (Gives.apart w.0 a b x at))
+    (λ at. other 14 (Some w.0) (In nothing x) (Gives.apart w.0 b a x at))
     w.1

@@ -4,6 +4,7 @@ pub mod Places
 pub mod Owing
 pub mod Redundancy
 pub mod Drawing
+pub mod Differing
 pub mod Handing
 pub mod Giving
 pub mod Intersections

@@ -6,7 +6,7 @@ use Rattle.std.proofs.lemmas.List.{length_push}
 use Rattle.std.specs.Prelude.{bit_and, bit_or}
 use Rattle.std.specs.Int.{bit_at}
 use Rattle.normal_forms.specs.declared.forms.Form.{Form}
-use Rattle.normal_forms.specs.declared.forms.Form.TheVariants.{N1, N2, N3, N4, N5, N6, N7, N8, N9, N10, N11, N12}
+use Rattle.normal_forms.specs.declared.forms.Form.TheVariants.{N1, N2, N3, N4, N5, N6, N7, N8, N9, N10, N12}
 use Rattle.normal_forms.specs.declared.forms.PropId2.{PropId2}
 use Rattle.normal_forms.specs.declared.forms.PropId2.TheVariants.{Property, Partial}
 use Rattle.axioms.specs.declared.ids.PropId.{PropId}
@@ -91,13 +91,12 @@ joined k (N7 _) x y z v p q h w = absurd w
 joined k (N8 _ _) x y z v p q h w = absurd w
 joined k (N9 _ _ _) x y z v p q h w = absurd w
 joined k (N10 _ _) x y z v p q h w = absurd w
-joined k (N11 _ _) x y z v p q h w = absurd w
 joined k (N12 _ _ _) x y z v p q h w = absurd w
 
 not_joined : (k : Problem) (seconds ends : ℕ) (f g : Fact) → ((s : PropId2) → HasBit seconds s → HasBit ends s → ⊥) → HasSecondsOf k.forms seconds f → HasEndsOf k.forms ends g → GiveNothing k f g
 not_joined k seconds ends (In a x) g never has may = absurd has
 not_joined k seconds ends (Edge x p y) (In b z) never has may = absurd may
-not_joined k seconds ends (Edge x p y) (Edge z q v) never has may = by_form_or_back k (Edge x p y) (Edge z q v)
+not_joined k seconds ends (Edge x p y) (Edge z q v) never has may = by_form_or_back k (Edge x p y) (Edge z q v) tt
     (λ n form h at w.
     let j = joined k form x y z v p q h w in
     let chain : slice_get k.forms n ≡ Some (N6 j.0 j.1 j.2) = at ∙ ap Some j.3 in
@@ -150,13 +149,12 @@ carried k (N7 _) x y z p c h w = absurd w
 carried k (N8 _ _) x y z p c h w = absurd w
 carried k (N9 _ _ _) x y z p c h w = absurd w
 carried k (N10 _ _) x y z p c h w = absurd w
-carried k (N11 _ _) x y z p c h w = absurd w
 carried k (N12 _ _ _) x y z p c h w = absurd w
 
 not_carried : (k : Problem) (above filled : ℕ) (f g : Fact) → ((s : PropId2) → HasBit above s → HasBit filled s → ⊥) → HasAboveOf k.forms above f → HasFilledOf k.forms filled g → GiveNothing k f g
 not_carried k above filled (In a x) g never has may = absurd has
 not_carried k above filled (Edge x p y) (Edge z q v) never has may = absurd may
-not_carried k above filled (Edge x p y) (In c z) never has may = by_form_or_back k (Edge x p y) (In c z)
+not_carried k above filled (Edge x p y) (In c z) never has may = by_form_or_back k (Edge x p y) (In c z) tt
     (λ n form h at w.
     let j = carried k form x y z p c h w in
     let restriction : slice_get k.forms n ≡ Some (N4 j.0 c j.1) = at ∙ ap Some j.2 in

@@ -2,13 +2,13 @@
 use Rattle.std.proofs.Common.{◌≡◌, ℕ, ◌<◌, inl, inr, ⊎_elim, List, length, take, slice_get, Option, Some, Contains, refl, ap, ◌∙◌, subst, arith}
 use Rattle.normal_forms.specs.declared.forms.Class2.{Class2}
 use Rattle.normal_forms.specs.declared.forms.Form.{Form}
-use Rattle.normal_forms.specs.declared.forms.Form.TheVariants.{N1, N2, N3, N4, N5, N6, N7, N8, N9, N10, N11, N12}
+use Rattle.normal_forms.specs.declared.forms.Form.TheVariants.{N1, N2, N3, N4, N5, N6, N7, N8, N9, N10, N12}
 use Rattle.facts.specs.declared.contexts.Context.{Context}
 use Rattle.facts.specs.declared.contexts.Context.TheVariants.{Expr}
 use Rattle.facts.specs.declared.contexts.Fact.{Fact}
 use Rattle.facts.specs.declared.contexts.Fact.TheVariants.{In}
 use Rattle.facts.specs.Births.{Reason}
-use Rattle.facts.specs.Closure.{Problem, IsContextBy, IsLoop, Gives, IsFact, in_thing, in_itself, by_form, unsatisfiable, loop, handed_on, different, given, condition, thing}
+use Rattle.facts.specs.Closure.{Problem, IsContextBy, IsLoop, Gives, IsFact, in_thing, in_itself, by_form, unsatisfiable, loop, handed_on, different, apart, given, condition, thing}
 use Rattle.inference.specs.Derivations.{Derived, IsDerived, Grows}
 use Rattle.inference.specs.Completeness.{AllDrawn, AreLoopsDrawn, HasEntry, IsContextAt, IsEntry, IsOwed}
 use Rattle.inference.proofs.Growth.{older_facts, sound, there_still}
@@ -50,7 +50,6 @@ no_form (N7 _) e = absurd (omega (arith, e))
 no_form (N8 _ _) e = absurd (omega (arith, e))
 no_form (N9 _ _ _) e = absurd (omega (arith, e))
 no_form (N10 _ _) e = absurd (omega (arith, e))
-no_form (N11 _ _) e = absurd (omega (arith, e))
 no_form (N12 _ _ _) e = absurd (omega (arith, e))
 
 one_context : (c d : Class2) (x y : Context) → In c x ≡ In d y → x ≡ y
@@ -63,7 +62,8 @@ by_context x (by_form n form at gives) e same = absurd (no_form form e)
 by_context x (unsatisfiable b) e same = absurd (omega (arith, e))
 by_context x (loop y n form at l is) e same = absurd (omega (arith, e))
 by_context x (handed_on n form at h) e same = absurd (omega (arith, e))
-by_context x (different n a b at one) e same = absurd (omega (arith, e))
+by_context x (different l a b at one) e same = absurd (omega (arith, e))
+by_context x (apart l a b y w) e same = absurd (omega (arith, e))
 
 module _ {k : Problem} {d : Derived} (s : IsDerived k d) where
   pub context_of_entry : (x : Context) (n : ℕ) (e : IsEntry d x n) → IsContextAt k d.facts e.birth.older x
@@ -128,5 +128,4 @@ class_is_not_owed k d c x w = no_loop w.context w.form w.is_loop
     no_loop y (N8 _ _) l = l
     no_loop y (N9 _ _ _) l = l
     no_loop y (N10 _ _) l = l
-    no_loop y (N11 _ _) l = l
     no_loop y (N12 _ _ _) l = l

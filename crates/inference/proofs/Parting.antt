@@ -1,17 +1,17 @@
 -- Classes in a context that lists of disjoint classes put apart.
-use Rattle.std.proofs.Common.{◌≡◌, ℕ, ◌+◌, ◌<◌, ◌≤◌, ⊎_elim, true, false, true≢false, is_some, List, length, take, get_or, slice_get, Option, Some, None, Contains, IfSome, IsNone, refl, sym, subst}
+use Rattle.std.proofs.Common.{◌≡◌, ℕ, ◌+◌, ◌<◌, ◌≤◌, ⊎_elim, true, false, true≢false, is_some, List, [], ◌∷◌, length, take, get_or, slice_get, Option, Some, None, Contains, IfSome, IsNone, refl, sym, ◌∙◌, subst}
 use Rattle.normal_forms.specs.declared.forms.Class2.{Class2}
 use Rattle.normal_forms.specs.declared.forms.Class2.TheVariants.{Expr}
 use Rattle.facts.specs.declared.contexts.Context.{Context}
 use Rattle.facts.specs.declared.contexts.Fact.{Fact}
 use Rattle.facts.specs.declared.contexts.Fact.TheVariants.{In}
-use Rattle.facts.specs.Closure.{Problem, nothing}
+use Rattle.facts.specs.Closure.{Problem, AreDisjointAt, Gives, nothing}
 use Rattle.indexes.specs.declared.apart.Apart.{Apart}
 use Rattle.indexes.specs.declared.disjoint.Beside.{Beside}
 use Rattle.indexes.specs.declared.disjoint.Operand.{Operand}
 use Rattle.indexes.specs.Apart.{HasClass, IsApart}
 use Rattle.inference.specs.Derivations.{Derived, Grows}
-use Rattle.inference.specs.Partings.{AreApartMet, IsApartIn, NoneIsApart}
+use Rattle.inference.specs.Partings.{AreApartMet, IsApartIn, IsPartingDrawn, NoneIsApart}
 use Rattle.inference.proofs.Drawing.{each_more, each}
 use Rattle.inference.proofs.Lists.{Contains-from_slice_get}
 
@@ -62,3 +62,16 @@ none_listed apart x facts numbers i = each (λ n. IsApartIn apart x facts n → 
 pub parted : {k : Problem} {most : ℕ} {a b : Derived} → Grows k most a b → (apart : Apart) (x : Context) (numbers : List ℕ) (n : ℕ) → Contains numbers n → (g : Fact) (new : List Fact) → slice_get a.facts n ≡ Some g
     → AreApartMet apart x b.facts numbers new → (c : Class2) → g ≡ In c x → IsApart apart c → Contains new (In nothing x)
 parted {b = b} s apart x numbers n there g new at met c is w = met n there (c, w, subst (λ (f : Fact). slice_get b.facts n ≡ Some f) is (s.facts n g at))
+
+-- two classes of one list at ordered places give owl:Nothing in the context of the facts that put them there
+pub gives_parting : (k : Problem) (l : ℕ) (f g : Fact) (a b : Class2) (x y : Context) → f ≡ In a x → g ≡ In b y → x ≡ y → AreDisjointAt k l a b → Gives k 14 (Some l) (f ∷ g ∷ []) (In nothing x)
+gives_parting k l f g a b x y first second same w =
+    rw (first, second) (subst (λ (z : Context). Gives k 14 (Some l) (In a x ∷ In b z ∷ []) (In nothing x)) same (Gives.apart l a b x w))
+
+-- nothing is to be drawn of two classes that no list has at ordered places
+pub no_parting : (k : Problem) (f g : Fact) (a b : Class2) (x y : Context) (facts : List Fact) → f ≡ In a x → g ≡ In b y → ((l : ℕ) → AreDisjointAt k l a b → ⊥) → IsPartingDrawn k f g facts
+no_parting k f g a b x y facts first second none l c d z w is_c is_d =
+    absurd (none l (subst (λ (p : Class2). AreDisjointAt k l p b) (one c a z x (sym is_c ∙ first)) (subst (λ (q : Class2). AreDisjointAt k l c q) (one d b z y (sym is_d ∙ second)) w)))
+  where
+    one : (p q : Class2) (u v : Context) → In p u ≡ In q v → p ≡ q
+    one p q u v e = cc

@@ -1,7 +1,7 @@
 -- What is redundant of what two facts give, and that it stays so.
 use Rattle.std.proofs.Common.{◌≡◌, inl, inr, ⊎_elim, ℕ, Bool, true, List, [], ◌∷◌, slice_get, Some, None, Option, refl, subst}
 use Rattle.normal_forms.specs.declared.forms.Form.{Form}
-use Rattle.normal_forms.specs.declared.forms.Form.TheVariants.{N1, N2, N3, N4, N5, N6, N7, N8, N9, N10, N11, N12}
+use Rattle.normal_forms.specs.declared.forms.Form.TheVariants.{N1, N2, N3, N4, N5, N6, N7, N8, N9, N10, N12}
 use Rattle.normal_forms.specs.declared.forms.PropId2.{PropId2}
 use Rattle.normal_forms.specs.Properties.{IsAtOrBelow}
 use Rattle.facts.specs.declared.contexts.Context.{Context}
@@ -67,7 +67,6 @@ ends k (N7 _) f h z q v w = absurd w
 ends k (N8 _ _) f h z q v w = absurd w
 ends k (N9 _ _ _) f h z q v w = absurd w
 ends k (N10 _ _) f h z q v w = absurd w
-ends k (N11 _ _) f h z q v w = absurd w
 ends k (N12 _ _ _) f h z q v w = absurd w
 
 not_carried : (f h : Fact) (z : Context) (q : PropId2) (v : Context) → Carries f (Edge z q v) h → ⊥

@@ -1,11 +1,9 @@
 -- A form that gives something from facts is listed for them.
-use Rattle.std.proofs.Common.{◌≡◌, ◌-◌, ◌⊎◌, ⊎_elim, ℕ, List, [], ◌∷◌, length, take, drop, length-drop, arith, slice_get, Option, Some, None, Contains, refl, sym, ap, subst, ◌∙◌}
-use Rattle.std.proofs.lemmas.List.{take-append-drop, take_all}
-use Rattle.std.proofs.lemmas.List.Elements.{Contains-append_cases}
+use Rattle.std.proofs.Common.{◌≡◌, ℕ, List, [], ◌∷◌, slice_get, Some, None, Contains, refl, sym, ap, subst, ◌∙◌}
 use Rattle.std.proofs.lemmas.Option.{none-some, same_Some}
 use Rattle.axioms.specs.declared.ids.IndId.{IndId}
 use Rattle.normal_forms.specs.declared.forms.Form.{Form}
-use Rattle.normal_forms.specs.declared.forms.Form.TheVariants.{N1, N2, N3, N4, N5, N6, N7, N8, N9, N10, N11, N12}
+use Rattle.normal_forms.specs.declared.forms.Form.TheVariants.{N1, N2, N3, N4, N5, N6, N7, N8, N9, N10, N12}
 use Rattle.axioms.specs.declared.ids.PropId.{PropId}
 use Rattle.normal_forms.specs.declared.forms.Class2.{Class2}
 use Rattle.normal_forms.specs.declared.forms.PropId2.{PropId2}
@@ -19,12 +17,8 @@ use Rattle.facts.specs.Closure.{Problem, FromNone, FromOne, FromTwo, Concludes, 
 use Rattle.indexes.specs.declared.keys.Key.{Key}
 use Rattle.indexes.specs.declared.keys.Key.TheVariants.{Whole}
 use Rattle.indexes.specs.Keys.{class_key, individual_key, by_kind, by_alone, by_first, by_second, by_filler, by_chain, by_denied, by_end, by_restricted, by_target, property_key}
-use Rattle.indexes.specs.FormsUnderKeys.{IsLikeFirst}
-use Rattle.inference.specs.Derivations.{Derived, Grows}
-use Rattle.inference.specs.Visits.{chained_properties, filled_property, AllChainsDrawn, AreVisited, IsBehind, IsBy, IsChainingDrawn, IsEdge, IsFillingDrawn}
-use Rattle.inference.specs.Completeness.{AreConcluded, AreDrawn, AreDrawnFrom, AllDrawn, DrawnAt, IsDrawnFrom}
-use Rattle.inference.proofs.Drawing.{drawn_at_still}
-use Rattle.inference.proofs.Growth.{grows_trans}
+use Rattle.inference.specs.Visits.{chained_properties, filled_property, AllChainsDrawn, IsBehind, IsBy, IsChainingDrawn, IsEdge, IsFillingDrawn}
+use Rattle.inference.specs.Completeness.{AreConcluded, AreDrawn, AllDrawn, DrawnAt}
 use Rattle.inference.proofs.Giving.{prefix}
 use Rattle.inference.proofs.Lists.{one_value, slice_get-from_Contains}
 
@@ -39,7 +33,6 @@ kind_given (N7 _) f w = absurd w
 kind_given (N8 _ _) f w = refl
 kind_given (N9 _ _ _) f w = refl
 kind_given (N10 _ _) f w = absurd w
-kind_given (N11 _ _) f w = absurd w
 kind_given (N12 _ _ _) f w = absurd w
 
 kind_loop : (x : Context) (form : Form) (f : Fact) → IsLoop x form f → by_kind form ≡ Some (Whole 1)
@@ -53,7 +46,6 @@ kind_loop x (N7 _) f w = refl
 kind_loop x (N8 _ _) f w = absurd w
 kind_loop x (N9 _ _ _) f w = absurd w
 kind_loop x (N10 _ _) f w = absurd w
-kind_loop x (N11 _ _) f w = absurd w
 kind_loop x (N12 _ _ _) f w = absurd w
 
 -- the form is listed for the fact
@@ -74,7 +66,6 @@ for_one k (N7 _) g f w = absurd w
 for_one k (N8 _ _) g f w = absurd w
 for_one k (N9 _ _ _) g f w = absurd w
 for_one k (N10 _ _) g f w = absurd w
-for_one k (N11 _ _) g f w = absurd w
 for_one k (N12 a r b) (Edge x q y) f w = (a, b, w.0, w.1, refl, refl)
 for_one k (N12 a r b) (In c x) f w = absurd w
 
@@ -97,7 +88,6 @@ for_two k (N7 _) g h f none unfilled w = absurd w
 for_two k (N8 _ _) g h f none unfilled w = absurd w
 for_two k (N9 _ _ _) g h f none unfilled w = absurd w
 for_two k (N10 _ _) g h f none unfilled w = absurd w
-for_two k (N11 _ _) g h f none unfilled w = absurd w
 for_two k (N12 _ _ _) g h f none unfilled w = absurd w
 
 -- a chain gives something from two edges alone, which are at or below its properties
@@ -132,7 +122,6 @@ chain_end k (N7 _) older f q key behind e w = absurd (none-some key e)
 chain_end k (N8 _ _) older f q key behind e w = absurd (none-some key e)
 chain_end k (N9 _ _ _) older f q key behind e w = absurd (none-some key e)
 chain_end k (N10 _ _) older f q key behind e w = absurd (none-some key e)
-chain_end k (N11 _ _) older f q key behind e w = absurd (none-some key e)
 chain_end k (N12 _ _ _) older f q key behind e w = absurd (none-some key e)
 
 -- the second of two edges is an edge by its property
@@ -166,7 +155,6 @@ restricted k (N7 _) older f p c key is e w = absurd (none-some key e)
 restricted k (N8 _ _) older f p c key is e w = absurd (none-some key e)
 restricted k (N9 _ _ _) older f p c key is e w = absurd (none-some key e)
 restricted k (N10 _ _) older f p c key is e w = absurd (none-some key e)
-restricted k (N11 _ _) older f p c key is e w = absurd (none-some key e)
 restricted k (N12 _ _ _) older f p c key is e w = absurd (none-some key e)
 
 -- so what these forms give is all that forms give
@@ -185,28 +173,10 @@ module _ (k : Problem) (older new : List Fact)
   given (N8 i a) n at f w = plain n (N8 i a) f at refl refl w
   given (N9 i r j) n at f w = plain n (N9 i r j) f at refl refl w
   given (N10 a b) n at f w = plain n (N10 a b) f at refl refl w
-  given (N11 a b) n at f w = plain n (N11 a b) f at refl refl w
   given (N12 a r b) n at f w = plain n (N12 a r b) f at refl refl w
 
   pub all_given : AreDrawn k older new
   all_given form there f w = let at = slice_get-from_Contains k.forms form there in given form at.0 at.1 f w
-
--- what the listed forms up to a place, then one more, and then the others give is what all of them do
-pub visited_between : {k : Problem} {most : ℕ} {a b d : Derived} → Grows k most a b → Grows k most b d → (older : List Fact) (listed : List ℕ) (place m : ℕ) → AreDrawnFrom k older a.facts (take place listed) → IsDrawnFrom k older b.facts m → AreDrawnFrom k older d.facts (take (length listed - place) (drop place listed)) → AreVisited k older d.facts listed (Some m)
-visited_between {k} {most} {a} {b} {d} s t older listed place m below here above = record {
-  listed = λ n c. ⊎_elim
-      (λ low. drawn_at_still (grows_trans s t) _ _ n (below n low))
-      (λ high. above n (subst (λ (rest : List ℕ). Contains rest n) (sym (take_all (length listed - place) (drop place listed) (omega (arith, length-drop place listed)))) high))
-      (Contains-append_cases (take place listed) (drop place listed) n (subst (λ (all : List ℕ). Contains all n) (sym (take-append-drop place listed)) c));
-  paired = λ i e. let same : m ≡ i = same_Some m i e in subst (IsDrawnFrom k older d.facts) same (drawn_at_still t _ _ m here);
-}
-
--- a form that is visited, or like that of the pair, has given what it gives
-pub given_when_visited : (k : Problem) (older facts : List Fact) (numbers : List ℕ) (pair : Option ℕ) → AreVisited k older facts numbers pair → (n : ℕ) (form : Form) (f : Fact) → slice_get k.forms n ≡ Some form → Contains numbers n ⊎ IsLikeFirst k.forms pair n → Concludes k form older f → Contains facts f
-given_when_visited k older facts numbers pair drawn n form f at which gives = ⊎_elim
-    (λ c. drawn.listed n c form at f gives)
-    (λ w. drawn.paired w.0 w.1 form (sym w.3 ∙ at) f gives)
-    which
 
 -- the loops of the reflexive properties are all loops
 pub all_loops : (k : Problem) (x : Context) (new : List Fact) → ((n : ℕ) (form : Form) → slice_get k.forms n ≡ Some form → by_kind form ≡ Some (Whole 1) → DrawnAt (IsLoop x) k.forms new n) → AllDrawn (IsLoop x) k.forms new

@@ -9,3 +9,4 @@ pub mod Sameness
 pub mod Marks
 pub mod Joins
 pub mod Partings
+pub mod Differences

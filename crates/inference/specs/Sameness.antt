@@ -1,10 +1,10 @@
--- What is there of individuals that forms make one, or make differ.
-use Rattle.std.specs.Prelude.{◌≡◌, ℕ, List, slice_get, Some}
+-- What is there of individuals that forms make one, and that lists make differ.
+use Rattle.std.specs.Prelude.{◌≡◌, ℕ, List}
 use denote.Struct.Props as logic
 use Rattle.std.specs.List.{Contains}
 use Rattle.axioms.specs.declared.ids.IndId.{IndId}
 use Rattle.normal_forms.specs.declared.forms.Form.{Form}
-use Rattle.normal_forms.specs.declared.forms.Form.TheVariants.{N11}
+use Rattle.normal_forms.specs.Apart.{AreListedAt}
 use Rattle.facts.specs.declared.contexts.Context.{Context}
 use Rattle.facts.specs.declared.contexts.Context.TheVariants.{Individual}
 use Rattle.facts.specs.declared.contexts.Fact.{Fact}
@@ -51,10 +51,10 @@ pub record IsHandedOnAt (k : Problem) (x : Context) (fact : Fact) (facts : List 
   pub first : (i : IndId) → x ≡ Individual i → (n : ℕ) → IsUnder by_linked_first k.forms (individual_key i) n → IsHandedOnBy k fact facts n
   pub second : (i : IndId) → x ≡ Individual i → (n : ℕ) → IsUnder by_linked_second k.forms (individual_key i) n → IsHandedOnBy k fact facts n
 
--- owl:Nothing is in the first of two individuals that the form at the place makes differ, where they are one
+-- owl:Nothing is in the first of two individuals that the list of that number makes differ, where they are one
 abbrev pub IsDifferenceDrawn : Problem → List Fact → ℕ → Type 0
-IsDifferenceDrawn k facts n = (a b : IndId) → slice_get k.forms n ≡ Some (N11 a b) → AreSame k.forms a b → Contains facts (In nothing (Individual a))
+IsDifferenceDrawn k facts l = (a b : IndId) → AreListedAt k.apart.individuals l a b → AreSame k.forms a b → Contains facts (In nothing (Individual a))
 
--- .. for each form
+-- .. for each list
 abbrev pub AreDifferencesDrawn : Problem → List Fact → Type 0
-AreDifferencesDrawn k facts = (n : ℕ) → IsDifferenceDrawn k facts n
+AreDifferencesDrawn k facts = (l : ℕ) → IsDifferenceDrawn k facts l

@@ -1,22 +1,33 @@
 -- Which forms are visited for facts.
-use Rattle.std.specs.Prelude.{◌≡◌, ℕ, ◌<◌, ◌⊎◌, Bool, true, List, [], ◌∷◌, length, slice_get, Option, Some, None}
+use Rattle.std.specs.Prelude.{◌≡◌, ℕ, ◌<◌, Bool, true, List, [], ◌∷◌, length, slice_get, Option, Some, None}
 use Rattle.std.specs.List.{Contains}
 use Rattle.indexes.specs.declared.keys.Key.{Key}
 use Rattle.normal_forms.specs.declared.forms.Form.{Form}
 use Rattle.normal_forms.specs.declared.forms.Class2.{Class2}
 use Rattle.normal_forms.specs.declared.forms.PropId2.{PropId2}
 use Rattle.normal_forms.specs.Properties.{IsAtOrBelow}
+use Rattle.facts.specs.declared.contexts.Context.{Context}
+use Rattle.facts.specs.declared.contexts.Context.TheVariants.{Individual}
 use Rattle.facts.specs.declared.contexts.Fact.{Fact}
 use Rattle.facts.specs.declared.contexts.Fact.TheVariants.{In, Edge}
 use Rattle.facts.specs.Closure.{Problem, Concludes, Gives}
-use Rattle.indexes.specs.Keys.{by_chain, by_end, by_filler, by_restricted, class_key, property_key}
-use Rattle.indexes.specs.FormsUnderKeys.{IsLikeFirst, IsUnder}
+use Rattle.indexes.specs.Keys.{by_chain, by_denied, by_end, by_filler, by_first, by_restricted, by_second, by_target, class_key, individual_key, property_key}
+use Rattle.indexes.specs.FormsUnderKeys.{IsUnder}
 use Rattle.property_closure.specs.PropertyClosures.{Known, Has}
-use Rattle.inference.specs.Completeness.{AreDrawnFrom, IsDrawnFrom, GoesOn}
+use Rattle.inference.specs.Completeness.{IsDrawnFrom, GoesOn}
 
 -- the two facts, in this order, give nothing
 abbrev pub GiveNothing : Problem → Fact → Fact → Type 0
 GiveNothing k f g = (condition : ℕ) (form : Option ℕ) (h : Fact) → Gives k condition form (f ∷ g ∷ []) h → ⊥
+
+-- the form of that number is an intersection of the two classes, in this order
+abbrev pub IsOfClasses : List Form → Class2 → Class2 → ℕ → Type 0
+IsOfClasses forms a b n = IsUnder by_first forms (class_key a) n × IsUnder by_second forms (class_key b) n
+
+-- the form of that number denies a pair of individuals of which these are the contexts, in this order
+abbrev pub IsDeniedBetween : List Form → Context → Context → ℕ → Type 0
+IsDeniedBetween forms (Individual a) (Individual b) n = IsUnder by_denied forms (individual_key a) n × IsUnder by_target forms (individual_key b) n
+IsDeniedBetween forms x y n = ⊥
 
 -- no form of that kind has the key
 abbrev pub NoneUnder : (Form → Option Key) → List Form → Key → Type 0
@@ -105,14 +116,9 @@ IsFillingDrawn k older facts = (p : PropId2) (c : Class2) → filled_property ol
 abbrev pub IsChainingDrawn : Problem → List Fact → List Fact → Type 0
 IsChainingDrawn k older facts = (p q : PropId2) → chained_properties older ≡ Some (p, q) → AllChainsDrawn k older facts p
 
--- each form, but chains and restrictions, that gives something from these facts has one of the numbers, or it is like that of the pair
-abbrev pub HaveAllVisited : Problem → List Fact → List ℕ → Option ℕ → Type 0
-HaveAllVisited k older numbers pair = (n : ℕ) (form : Form) (f : Fact) → slice_get k.forms n ≡ Some form → by_chain form ≡ None → by_filler form ≡ None → Concludes k form older f → Contains numbers n ⊎ IsLikeFirst k.forms pair n
-
--- what the forms of these numbers, and of the pair, give from these facts is there
-pub record AreVisited (k : Problem) (older facts : List Fact) (numbers : List ℕ) (pair : Option ℕ) : Type 0 where
-  pub listed : AreDrawnFrom k older facts numbers
-  pub paired : (m : ℕ) → pair ≡ Some m → IsDrawnFrom k older facts m
+-- each form, but chains and restrictions, that gives something from these facts has one of the numbers
+abbrev pub HaveAllVisited : Problem → List Fact → List ℕ → Type 0
+HaveAllVisited k older numbers = (n : ℕ) (form : Form) (f : Fact) → slice_get k.forms n ≡ Some form → by_chain form ≡ None → by_filler form ≡ None → Concludes k form older f → Contains numbers n
 
 -- the form at the place goes on
 abbrev pub GoesOnAt : List Form → ℕ → Type 0

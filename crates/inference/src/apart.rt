@@ -5,11 +5,11 @@ ghost use Rattle.facts.specs.Closure.{nothing};
 ghost use Rattle.normal_forms.specs.declared.forms.Class2.{Class2 as Class3};
 ghost use Rattle.normal_forms.specs.declared.forms.Class2.TheVariants as classes;
 ghost use Rattle.indexes.specs.declared.disjoint.Operand.{Operand as Operand2};
-ghost use Rattle.indexes.specs.Apart.{AreDisjoint, HasClass, IsApart};
+ghost use Rattle.indexes.specs.Apart.{AreApart, HasClass, IsApart};
 ghost use Rattle.inference.specs.Derivations.{IsDerived};
 ghost use Rattle.inference.specs.Draws.{Draws};
 ghost use Rattle.inference.specs.Visits.{AreWithin};
-ghost use Rattle.inference.specs.Partings.{AreApartMet, IsApartIn, NoneIsApart};
+ghost use Rattle.inference.specs.Partings.{AreApartMet, IsApartIn, IsPartingDrawn, NoneIsApart};
 
 use crate::conclusions::NOTHING;
 use crate::known_facts::{KnownFacts, Stop};
@@ -93,6 +93,34 @@ fn find_apart(
 }
 
 impl Rules<'_> {
+    /// Adds `owl:Nothing` to the context into which the two facts put classes, where a list of disjoint classes has both, that of the first
+    /// fact at an earlier place.
+    #[inline(always)]
+    pub(crate) fn draw_disjoint(
+        &self,
+        facts: &mut KnownFacts,
+        m: u32,
+        f: Fact,
+        n: u32,
+        g: Fact,
+    ) -> Result<(), Stop>
+        requires derived { IsDerived self.now.problem.now facts.old }
+        requires first { slice_get facts.old.facts m ≡ Some f }
+        requires second { slice_get facts.old.facts n ≡ Some g }
+        ensures { Draws self.now facts.old facts.new result (IsPartingDrawn self.now.problem.now f g facts.new.facts) }
+    {
+        let (Fact::In(a, x), Fact::In(b, y)) = (f, g) else {
+            return Ok(());
+        };
+        if x != y {
+            return Ok(());
+        }
+        if let Some(list) = self.problem.disjoint_list(a, b) {
+            self.add(facts, Fact::In(NOTHING, x), 14, &[m, n], Some(list))?;
+        }
+        Ok(())
+    }
+
     /// Adds `owl:Nothing` to the context, into which the facts of two numbers put two classes that are disjoint.
     fn draw_apart(
         &self,
@@ -104,7 +132,7 @@ impl Rules<'_> {
     ) -> Result<(), Stop>
         requires derived { IsDerived self.now.problem.now facts.old }
         requires hand { slice_get facts.old.facts hand ≡ Some (In class context) }
-        requires other { (b : Class3) × AreDisjoint self.now.problem.now.forms class b × (slice_get facts.old.facts number ≡ Some (In b context)) }
+        requires other { (b : Class3) × AreApart self.now.problem.now class b × (slice_get facts.old.facts number ≡ Some (In b context)) }
         ensures { Draws self.now facts.old facts.new result (Contains facts.new.facts (In nothing context)) }
     {
         let fact = Fact::In(class, context);
@@ -127,7 +155,7 @@ impl Rules<'_> {
     ) -> Result<(), Stop>
         requires derived { IsDerived self.now.problem.now facts.old }
         requires hand { slice_get facts.old.facts hand ≡ Some (In class context) }
-        requires apart { (b : Class3) → IsApart apart.now b → AreDisjoint self.now.problem.now.forms class b }
+        requires apart { (b : Class3) → IsApart apart.now b → AreApart self.now.problem.now class b }
         requires numbers { AreWithin facts.old.facts numbers.now }
         ensures { Draws self.now facts.old facts.new result (AreApartMet apart.now context facts.old.facts numbers.now facts.new.facts) }
     {

@@ -35,7 +35,6 @@ pub(crate) fn condition_of(form: &Form) -> u8
         Form::N8(..) => 2,
         Form::N9(..) => 3,
         Form::N10(..) => 11,
-        Form::N11(..) => 12,
         Form::N12(..) => 13,
     }
 }

@@ -124,6 +124,11 @@ impl KnownFacts {
         })
     }
 
+    /// What gives it memory.
+    pub(crate) fn allocator(&self) -> Global {
+        *self.births.allocator()
+    }
+
     /// The facts, in order of birth.
     pub fn as_slice(&self) -> &[StoredFact]
         ensures value { result.now ≡ self.now.facts }

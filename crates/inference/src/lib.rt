@@ -3,6 +3,7 @@
 
 mod apart;
 mod conclusions;
+mod differences;
 mod entries;
 mod joins;
 mod known_facts;

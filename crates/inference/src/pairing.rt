@@ -1,11 +1,12 @@
 //! What two facts give, added to the facts.
-ghost use Rattle.std.specs.Prelude.{◌≡◌, ◌<◌, [], ◌∷◌, false, Some, length, slice_get};
+ghost use Rattle.std.specs.Prelude.{◌≡◌, ◌<◌, [], ◌∷◌, ℕ, false, Some, length, slice_get};
+ghost use Rattle.facts.specs.Closure.{AreDisjointAt};
 ghost use Rattle.facts.specs.declared.contexts.Fact.{Fact as Fact2};
 ghost use Rattle.facts.specs.declared.contexts.Fact.TheVariants.{In};
 ghost use Rattle.inference.specs.Derivations.{IsDerived};
 ghost use Rattle.inference.specs.Draws.{Draws};
 ghost use Rattle.inference.specs.Completeness.{IsRedundantAsSecond, Drawn, IsDrawnIn, AreDrawnIn, MeetsOperands, MeetEachOther, AreMet, AreMetBefore, AreMetBehind};
-ghost use Rattle.inference.specs.Visits.{AreAll, AreWithin, GiveNothing, IsBy, IsClassFact, IsEdge};
+ghost use Rattle.inference.specs.Visits.{AreAll, AreWithin, GiveNothing, IsBy, IsClassFact, IsEdge, IsOfClasses};
 ghost use Rattle.inference.specs.Marks.{HasAboveOf, HasEndsOf, HasFilledOf, HasSecondsOf};
 ghost use Rattle.inference.specs.Meetings.{IsWithin, AllListedAreMet, HasServed};
 
@@ -17,14 +18,28 @@ use indexes::Index;
 use normal_forms::{Class2, PropId2};
 
 impl Rules<'_> {
+    /// Whether an intersection begins with the first of two classes, and one ends with the second.
+    fn may_intersect(&self, first: Class2, second: Class2) -> bool
+        ensures { result ≡ false → (n : ℕ) → IsOfClasses self.now.problem.now.forms first second n → ⊥ }
+    {
+        self.problem.begins_intersection(first) && self.problem.ends_intersection(second)
+    }
+
+    /// Whether each of two classes is in a list of disjoint classes.
+    fn may_be_disjoint(&self, first: Class2, second: Class2) -> bool
+        ensures { result ≡ false → (l : ℕ) → AreDisjointAt self.now.problem.now l first second → ⊥ }
+    {
+        self.problem.is_in_list(first) && self.problem.is_in_list(second)
+    }
+
     /// Whether the two facts may give something in this order: two classes give nothing where no intersection begins with the first,
-    /// or none ends with the second.
+    /// or none ends with the second, and no list of disjoint classes has the one, or none has the other.
     fn may_give(&self, first: Fact, second: Fact) -> bool
         ensures { result ≡ false → GiveNothing self.now.problem.now first second }
     {
         match (first, second) {
             (Fact::In(a, _), Fact::In(b, _)) => {
-                self.problem.begins_intersection(a) && self.problem.ends_intersection(b)
+                self.may_intersect(a, b) || self.may_be_disjoint(a, b)
             }
             _ => true,
         }
@@ -38,6 +53,7 @@ impl Rules<'_> {
         ensures { Draws self.now facts.old facts.new result (Drawn self.now.problem.now (f ∷ g ∷ []) facts.new.facts) }
     {
         self.draw(facts, &[m, n], &[f, g])?;
+        self.draw_disjoint(facts, m, f, n, g)?;
         Ok(())
     }
 

@@ -7,14 +7,14 @@ ghost use Rattle.property_closure.specs.PropertyClosures.{Has};
 ghost use Rattle.inference.specs.PropertyClosures.{IsClosureOf, IsClosureOf-prop};
 ghost use Rattle.inference.specs.Joins.{AreJoins, AreJoins-prop};
 ghost use Rattle.inference.specs.Completeness.{AreAt, AreEntered, IsContextAt, AllDrawn, AreConcluded, DrawnAt, DrawnUpToRedundancy, AreDrawnFrom, AreDrawn, IsDrawnFrom, IsEntered, IsInItself};
-ghost use Rattle.inference.specs.Visits.{AllChainsDrawn, AllRestrictionsDrawn, AreVisited, ChainsDrawn, IsBehind, IsChainingDrawn, IsFillingDrawn, filled_property};
+ghost use Rattle.inference.specs.Visits.{AllChainsDrawn, AllRestrictionsDrawn, ChainsDrawn, IsBehind, IsChainingDrawn, IsFillingDrawn, filled_property};
 ghost use Rattle.inference.specs.Sameness.{AreGroupsOf, AreGroupsOf-prop};
 ghost use Rattle.inference.specs.Entry.{HasBegun, IsDrawnAlone, LoopIsDrawn, LoopsAreDrawn};
 
 use crate::conclusions::{THING, carried_back, conclusion, condition_of, loop_at};
 use crate::joins::Joins;
 use crate::known_facts::{KnownFacts, Stop};
-use crate::visits::{chained, count_below, filled, is_long, visited};
+use crate::visits::{chained, filled, is_long, visited};
 use facts::{Birth, Context, Fact};
 use indexes::{Groups, IndexedProblem};
 use normal_forms::{Class2, PropId2};
@@ -109,47 +109,6 @@ impl Rules<'_> {
     {
         for number in listed {
             self.draw_form(facts, *number, numbers, older)?;
-        }
-        Ok(())
-    }
-
-    /// Adds what the listed forms and that of the pair give from the facts: first the listed ones up to the pair, then the pair, then the others.
-    fn draw_between(
-        &self,
-        facts: &mut KnownFacts,
-        listed: &[u32],
-        pair: u32,
-        numbers: &[u32],
-        older: &[Fact],
-    ) -> Result<(), Stop>
-        requires derived { IsDerived self.now.problem.now facts.old }
-        requires older { AreAt facts.old.facts numbers.now older.now }
-        ensures { Draws self.now facts.old facts.new result (AreVisited self.now.problem.now older.now facts.new.facts listed.now (Some pair)) }
-    {
-        let below = count_below(listed, pair);
-        self.draw_listed(facts, &listed[..below], numbers, older)?;
-        self.draw_form(facts, pair, numbers, older)?;
-        self.draw_listed(facts, &listed[below..], numbers, older)?;
-        Ok(())
-    }
-
-    /// Adds what the listed forms, and that of the pair, give from the facts, in the order of their numbers.
-    #[inline(always)]
-    fn draw_visited(
-        &self,
-        facts: &mut KnownFacts,
-        listed: &[u32],
-        pair: Option<u32>,
-        numbers: &[u32],
-        older: &[Fact],
-    ) -> Result<(), Stop>
-        requires derived { IsDerived self.now.problem.now facts.old }
-        requires older { AreAt facts.old.facts numbers.now older.now }
-        ensures { Draws self.now facts.old facts.new result (AreVisited self.now.problem.now older.now facts.new.facts listed.now pair) }
-    {
-        match pair {
-            Some(pair) => self.draw_between(facts, listed, pair, numbers, older)?,
-            None => self.draw_listed(facts, listed, numbers, older)?,
         }
         Ok(())
     }
@@ -318,8 +277,7 @@ impl Rules<'_> {
         requires older { AreAt facts.old.facts numbers.now older.now }
         ensures { Draws self.now facts.old facts.new result (AreDrawn self.now.problem.now older.now facts.new.facts) }
     {
-        let visited = visited(self.problem, older);
-        self.draw_visited(facts, visited.listed, visited.pair, numbers, older)?;
+        self.draw_listed(facts, visited(self.problem, older), numbers, older)?;
         self.draw_filled(facts, numbers, older)?;
         self.draw_chained(facts, numbers, older)?;
         Ok(())

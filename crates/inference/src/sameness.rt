@@ -1,44 +1,17 @@
-//! What facts give where forms make individuals one, or make them differ, added to the facts.
+//! What facts give where forms make individuals one, added to the facts.
 ghost use Rattle.std.specs.Prelude.{◌≡◌, ◌∷◌, [], ℕ, Some, Contains, slice_get};
 ghost use Rattle.facts.specs.Births.{IsBirth};
 ghost use Rattle.facts.specs.declared.contexts.Fact.{Fact as Fact2};
 ghost use Rattle.inference.specs.Derivations.{IsDerived};
 ghost use Rattle.inference.specs.Draws.{Draws};
-ghost use Rattle.inference.specs.Sameness.{AreDifferencesDrawn, IsDifferenceDrawn, IsHandedOn, IsHandedOnAt, IsHandedOnBy};
+ghost use Rattle.inference.specs.Sameness.{IsHandedOn, IsHandedOnAt, IsHandedOnBy};
 
-use crate::conclusions::{NOTHING, at_linked_source, at_linked_target};
+use crate::conclusions::{at_linked_source, at_linked_target};
 use crate::known_facts::{KnownFacts, Stop};
 use crate::rules::Rules;
 use facts::{Context, Fact};
-use normal_forms::Form;
 
 impl Rules<'_> {
-    /// Adds `owl:Nothing` to the first of two individuals that the form of that number makes differ, where they are one.
-    fn draw_difference(&self, facts: &mut KnownFacts, number: u32) -> Result<(), Stop>
-        requires { IsDerived self.now.problem.now facts.old }
-        ensures { Draws self.now facts.old facts.new result (IsDifferenceDrawn self.now.problem.now facts.new.facts number) }
-    {
-        let Some(Form::N11(first, second)) = self.problem.form(number) else {
-            return Ok(());
-        };
-        if self.groups.are_same(first, second) {
-            let bottom = Fact::In(NOTHING, Context::Individual(first));
-            self.add(facts, bottom, 12, &[], Some(number))?;
-        }
-        Ok(())
-    }
-
-    /// Adds `owl:Nothing` to the first of two individuals that a form makes differ, where they are one.
-    pub(crate) fn draw_different(&self, facts: &mut KnownFacts) -> Result<(), Stop>
-        requires { IsDerived self.now.problem.now facts.old }
-        ensures { Draws self.now facts.old facts.new result (AreDifferencesDrawn self.now.problem.now facts.new.facts) }
-    {
-        for number in self.problem.different() {
-            self.draw_difference(facts, *number)?;
-        }
-        Ok(())
-    }
-
     /// Adds a fact, if there is one, that the form of that number hands on of the fact in hand.
     fn hand_over(
         &self,

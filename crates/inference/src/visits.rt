@@ -1,5 +1,5 @@
 //! Which forms are visited for facts: those that give something from them are listed.
-ghost use Rattle.std.specs.Prelude.{◌≡◌, ◌≤◌, ◌∷◌, [], ℕ, Some, Contains, IfSome, IsNone, false, length, slice_get};
+ghost use Rattle.std.specs.Prelude.{◌≡◌, ◌↔◌, ◌∷◌, [], ℕ, Some, Contains, IfSome, IsNone, false, slice_get};
 ghost use Rattle.facts.specs.Closure.{FromOne, nothing};
 ghost use Rattle.facts.specs.declared.contexts.Fact.{Fact as Fact2};
 ghost use Rattle.normal_forms.specs.declared.forms.Form.{Form as Form2};
@@ -7,17 +7,14 @@ ghost use Rattle.normal_forms.specs.declared.forms.Class2.{Class2 as Class3};
 ghost use Rattle.normal_forms.specs.declared.forms.Form.TheVariants as forms;
 ghost use Rattle.normal_forms.specs.Properties.{IsAtOrBelow};
 ghost use Rattle.normal_forms.specs.declared.forms.PropId2.{PropId2 as PropId3};
-ghost use Rattle.axioms.specs.declared.ids.IndId.{IndId as IndId2};
-ghost use Rattle.facts.specs.declared.contexts.Context.TheVariants as the_contexts;
-ghost use Rattle.indexes.specs.FormsUnderKeys.{IsUnder};
-ghost use Rattle.indexes.specs.Keys.{by_chain, by_denied, by_filler, by_target, class_key, individual_key, property_key};
+ghost use Rattle.indexes.specs.Keys.{by_chain, by_filler, class_key, property_key};
 ghost use Rattle.property_closure.specs.PropertyClosures.{Has};
 ghost use Rattle.inference.specs.PropertyClosures.{IsClosureOf};
-ghost use Rattle.inference.specs.Visits.{HaveAllVisited, IsNotCarried, NoneUnder, chained_pair, chained_properties, filled_pair, filled_property};
+ghost use Rattle.inference.specs.Visits.{HaveAllVisited, IsDeniedBetween, IsNotCarried, NoneUnder, chained_pair, chained_properties, filled_pair, filled_property};
 
 use crate::conclusions::NOTHING;
 use facts::{Context, Fact};
-use indexes::{Candidates, IndexedProblem};
+use indexes::IndexedProblem;
 use normal_forms::{Class2, Form, PropId2};
 use property_closure::PropertyClosure;
 
@@ -68,7 +65,7 @@ pub(crate) fn is_long(list: &[u32], properties: &[PropId2]) -> bool {
 
 /// The forms that deny a pair of these contexts, where they are individuals.
 fn denied_between(problem: &IndexedProblem, source: Context, target: Context) -> &[u32]
-    ensures { (a b : IndId2) (n : ℕ) → source ≡ the_contexts.Individual a → target ≡ the_contexts.Individual b → IsUnder by_denied problem.now.forms (individual_key a) n → IsUnder by_target problem.now.forms (individual_key b) n → Contains result.now n }
+    ensures { (n : ℕ) → Contains result.now n ↔ IsDeniedBetween problem.now.forms source target n }
 {
     match (source, target) {
         (Context::Individual(source), Context::Individual(target)) => {
@@ -89,37 +86,25 @@ fn visited_by_one(problem: &IndexedProblem, first: Fact) -> &[u32]
 }
 
 /// The forms, but chains and restrictions, that give something from two facts in this order.
-fn visited_by_two(problem: &IndexedProblem, first: Fact, second: Fact) -> Candidates<'_>
-    ensures { HaveAllVisited problem.now (first ∷ second ∷ []) result.listed.now result.pair }
+fn visited_by_two(problem: &IndexedProblem, first: Fact, second: Fact) -> &[u32]
+    ensures { HaveAllVisited problem.now (first ∷ second ∷ []) result.now }
 {
     match (first, second) {
         (Fact::In(a, _), Fact::In(b, _)) => problem.intersections(a, b),
-        _ => Candidates::of(&[]),
+        _ => &[],
     }
 }
 
 /// The forms, but chains and restrictions, that give something from the facts in their order.
-pub(crate) fn visited<'a>(problem: &'a IndexedProblem, older: &[Fact]) -> Candidates<'a>
-    ensures { HaveAllVisited problem.now older.now result.listed.now result.pair }
+pub(crate) fn visited<'a>(problem: &'a IndexedProblem, older: &[Fact]) -> &'a [u32]
+    ensures { HaveAllVisited problem.now older.now result.now }
 {
     match *older {
-        [] => Candidates::of(problem.given()),
-        [first] => Candidates::of(visited_by_one(problem, first)),
+        [] => problem.given(),
+        [first] => visited_by_one(problem, first),
         [first, second] => visited_by_two(problem, first, second),
-        _ => Candidates::of(&[]),
+        _ => &[],
     }
-}
-
-/// How many of the numbers are below that one, up to the first that is not.
-pub(crate) fn count_below(numbers: &[u32], number: u32) -> usize
-    ensures { result ≤ length numbers.now }
-{
-    for place in 0..numbers.len() {
-        if numbers[place] >= number {
-            return place;
-        }
-    }
-    numbers.len()
 }
 
 pub(crate) fn has_any(list: &[u32]) -> bool

@@ -47,7 +47,7 @@ abbrev pub IsNext : List ℕ → ℕ → ℕ → Type 0
 IsNext xs a b = (n : ℕ) × (slice_get xs n ≡ Some a) × (slice_get xs (n + 1) ≡ Some b)
 
 -- two members of a list, the first at an earlier place
-abbrev pub AtOrderedPlaces : List ℕ → ℕ → ℕ → Type 0
+abbrev pub AtOrderedPlaces : {X : Type 0} → List X → X → X → Type 0
 AtOrderedPlaces cs c d = (m : ℕ) × (n : ℕ) × (m < n) × (slice_get cs m ≡ Some c) × (slice_get cs n ≡ Some d)
 
 -- the normal forms of the axioms, with those of the expressions that are asked about

@@ -5,6 +5,4 @@ pub mod Properties
 pub mod Theorems
 pub mod StoredForms
 pub mod Lists
-pub mod Pairs
-pub mod FormPieces
-pub mod Stretches
+pub mod Apart

@@ -31,7 +31,6 @@ form_from kinds.N7 _ r _ _ _ _ = forms.N7 (record { 0 = r })
 form_from kinds.N8 _ a q b _ _ = forms.N8 (record { 0 = a }) (class_from q b)
 form_from kinds.N9 _ a _ r _ b = forms.N9 (record { 0 = a }) (record { 0 = r }) (record { 0 = b })
 form_from kinds.N10 _ a _ b _ _ = forms.N10 (record { 0 = a }) (record { 0 = b })
-form_from kinds.N11 _ a _ b _ _ = forms.N11 (record { 0 = a }) (record { 0 = b })
 form_from kinds.N12 _ a _ r _ b = forms.N12 (record { 0 = a }) (record { 0 = r }) (record { 0 = b })
 
 abbrev pub form_of : StoredForm → Form

@@ -28,7 +28,7 @@ impl PropId2 {
     }
 }
 
-/// The twelve normal forms.
+/// The normal forms, but for those that lists of what is apart stand for.
 #[derive(Clone, Copy, PartialEq, Eq)]
 pub enum Form {
     /// A below B.
@@ -51,8 +51,6 @@ pub enum Form {
     N9(IndId, PropId, IndId),
     /// a and b are one.
     N10(IndId, IndId),
-    /// a and b are two.
-    N11(IndId, IndId),
     /// Not a r b.
     N12(IndId, PropId, IndId),
 }

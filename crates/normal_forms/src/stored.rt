@@ -1,11 +1,12 @@
 //! Normal forms as they are kept.
+ghost use Rattle.normal_forms.specs.Properties.{is_property_form};
 ghost use Rattle.normal_forms.specs.StoredForms.{form_of, form_from};
 ghost use Rattle.std.specs.Prelude.{◌≡◌};
 
 use crate::forms::{Class2, Form, PropId2};
 use axioms::{ExprId, IndId, PropId};
 
-/// Which of the twelve normal forms it is.
+/// Which of the normal forms it is.
 #[derive(Clone, Copy, PartialEq, Eq)]
 pub(crate) enum Kind {
     N1,
@@ -18,7 +19,6 @@ pub(crate) enum Kind {
     N8,
     N9,
     N10,
-    N11,
     N12,
 }
 
@@ -74,11 +74,18 @@ impl StoredForm {
                 StoredForm::of(Kind::N9, (false, a.0), (false, r.0), (false, b.0))
             }
             Form::N10(a, b) => StoredForm::of(Kind::N10, (false, a.0), (false, b.0), NONE),
-            Form::N11(a, b) => StoredForm::of(Kind::N11, (false, a.0), (false, b.0), NONE),
             Form::N12(a, r, b) => {
                 StoredForm::of(Kind::N12, (false, a.0), (false, r.0), (false, b.0))
             }
         }
+    }
+
+    /// Whether the form is of properties alone: N5, N6 or N7.
+    #[inline(always)]
+    pub(crate) fn is_of_properties(&self) -> bool
+        ensures { result ≡ is_property_form (form_of self.now) }
+    {
+        matches!(self.kind, Kind::N5 | Kind::N6 | Kind::N7)
     }
 
     /// The form.
@@ -104,7 +111,6 @@ impl StoredForm {
             Kind::N8 => Form::N8(IndId(first), second_class),
             Kind::N9 => Form::N9(IndId(first), PropId(second), IndId(third)),
             Kind::N10 => Form::N10(IndId(first), IndId(second)),
-            Kind::N11 => Form::N11(IndId(first), IndId(second)),
             Kind::N12 => Form::N12(IndId(first), PropId(second), IndId(third)),
         }
     }

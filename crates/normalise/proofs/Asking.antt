@@ -10,12 +10,15 @@ use Rattle.axioms.specs.Growth.{Numbers}
 use Rattle.axioms.specs.Ontology.{Ontology}
 use Rattle.axioms.specs.View.{expr_numbers}
 use Rattle.axioms.specs.declared.ids.ExprId.{ExprId}
+use Rattle.normal_forms.specs.Apart.{no_lists}
 use Rattle.normal_forms.specs.declared.forms.Origin.{Origin}
 use Rattle.normal_forms.specs.declared.forms.Origin.TheVariants as origins
 use Rattle.normal_forms.specs.Forms.{Form}
 use Rattle.normal_forms.specs.Origins.{GivenBy}
 use Rattle.normalise.proofs.FreshNames.{no_chains}
-use Rattle.normalise.specs.Growth.{Grows, IsNormalFor}
+use Rattle.normalise.specs.Growth.{Grows, IsHeldAt, IsNormalFor}
+use Rattle.normalise.specs.Listing.{Listing}
+use Rattle.normalise.specs.View.{Place, AtEntry, AtClasses, AtIndividuals}
 
 -- it is none of those before k, nor that at k
 pub not_yet : (asked : List ExprId) (x k : ℕ) (e : ExprId) → slice_get asked k ≡ Some e → (e.0 ≡ x → ⊥) → ((n : ℕ) → n < k → slice_get (expr_numbers asked) n ≡ Some x → ⊥) → (n : ℕ) → n < k + 1 → slice_get (expr_numbers asked) n ≡ Some x → ⊥
@@ -44,12 +47,24 @@ nothing_given (origins.Axiom zero) g (a, at, h) = none-some a at
 nothing_given (origins.Axiom (suc n)) g (a, at, h) = none-some a at
 nothing_given (origins.Expr e) g (node, at, h) = none-some node at
 
-pub nothing_normal : IsNormalFor no_ontology (record { entries = []; operands = []; steps = []; asked = []; right = []; left = [] })
+-- the normal forms of nothing
+abbrev nothing_listed : Listing
+nothing_listed = record { entries = []; apart = no_lists; disjoint_axioms = []; different_axioms = []; operands = []; steps = []; asked = []; right = []; left = [] }
+
+nothing_held : (p : Place) (by : Origin) (g : Form) → IsHeldAt nothing_listed p by g → ⊥
+nothing_held (AtEntry n) by g h = none-some _ h.1
+nothing_held (AtClasses l m n) by g h = none-some h.members h.there
+nothing_held (AtIndividuals l m n) by g h = none-some h.members h.there
+
+pub nothing_normal : IsNormalFor no_ontology nothing_listed
 unfolding no_ontology
 nothing_normal = record {
   each = λ n l. absurd (omega arith);
   all = λ by g h. absurd (nothing_given by g h);
-  once = λ m n by g h _. absurd (none-some _ h.1);
+  each_disjoint = λ l c d h. absurd (none-some h.0 h.1);
+  each_different = λ l i j h. absurd (none-some h.0 h.1);
+  once = λ p q by g h _. absurd (nothing_held p by g h);
+  numbered = (refl, refl);
   operands = λ m n x g _. absurd (none-some x g);
   steps = λ m n x g _. absurd (none-some x g);
   intersections = λ n ds g. absurd (none-some ds g);

@@ -225,23 +225,23 @@ named_cases old new list k within names n xs g = elim (cases_eq (k + 1) (length 
   ])
 ]
 
-pub more_numbered : (s t : Made) (ds : List ℕ) (e k n : ℕ) → 0 < k → k + 1 < length ds → t.entries ≡ s.entries → t.steps ≡ s.steps → Numbers s.operands (take (k + 1) ds) t.operands n → MoreOperands s t ds e k (classes.Partial n)
-more_numbered s t ds e k n p l es ss numbers =
+pub more_numbered : (s t : Made) (ds : List ℕ) (e k n : ℕ) → 0 < k → k + 1 < length ds → t.entries ≡ s.entries → t.apart ≡ s.apart → t.steps ≡ s.steps → Numbers s.operands (take (k + 1) ds) t.operands n → MoreOperands s t ds e k (classes.Partial n)
+more_numbered s t ds e k n p l es ea ss numbers =
     let there = numbered_there s.operands (take (k + 1) ds) t.operands n numbers in
     let many : 2 ≤ length (take (k + 1) ds) = omega (arith, take_long (k + 1) ds (omega arith)) in
-    record { entries = es; steps = ss; operands = lengthens_numbered _ _ _ n numbers; names = some_name s.operands t.operands ds k n l numbers; starts = λ _. (there, many); says = (take (k + 1) ds, there, first_more ds e (k + 1) (omega arith) l) }
+    record { entries = es; apart = ea; steps = ss; operands = lengthens_numbered _ _ _ n numbers; names = some_name s.operands t.operands ds k n l numbers; starts = λ _. (there, many); says = (take (k + 1) ds, there, first_more ds e (k + 1) (omega arith) l) }
 
 pub more_whole : (s : Made) (ds : List ℕ) (k : ℕ) (e : ExprId) → k + 1 ≡ length ds → MoreOperands s s ds e.0 k (classes.Expr e)
-more_whole s ds k e l = record { entries = refl; steps = refl; operands = lengthens_same _ _ refl; names = no_name s.operands ds k l; starts = λ h. absurd (omega arith); says = first_whole ds e.0 (k + 1) l }
+more_whole s ds k e l = record { entries = refl; apart = refl; steps = refl; operands = lengthens_same _ _ refl; names = no_name s.operands ds k l; starts = λ h. absurd (omega arith); says = first_whole ds e.0 (k + 1) l }
 
-pub steps_numbered : (s t : Made) (rs : List ℕ) (whole k n : ℕ) → 0 < k → k + 1 < length rs → t.entries ≡ s.entries → t.operands ≡ s.operands → Numbers s.steps (take (k + 1) rs) t.steps n → MoreSteps s t rs whole k (properties.Partial n)
-steps_numbered s t ds whole k n p l es ss numbers =
+pub steps_numbered : (s t : Made) (rs : List ℕ) (whole k n : ℕ) → 0 < k → k + 1 < length rs → t.entries ≡ s.entries → t.apart ≡ s.apart → t.operands ≡ s.operands → Numbers s.steps (take (k + 1) rs) t.steps n → MoreSteps s t rs whole k (properties.Partial n)
+steps_numbered s t ds whole k n p l es ea ss numbers =
     let there = numbered_there s.steps (take (k + 1) ds) t.steps n numbers in
     let many : 2 ≤ length (take (k + 1) ds) = omega (arith, take_long (k + 1) ds (omega arith)) in
-    record { entries = es; operands = ss; steps = lengthens_numbered _ _ _ n numbers; names = some_name s.steps t.steps ds k n l numbers; starts = λ _. (there, many); says = (take (k + 1) ds, there, steps_more ds (Property whole) (k + 1) (omega arith) l) }
+    record { entries = es; apart = ea; operands = ss; steps = lengthens_numbered _ _ _ n numbers; names = some_name s.steps t.steps ds k n l numbers; starts = λ _. (there, many); says = (take (k + 1) ds, there, steps_more ds (Property whole) (k + 1) (omega arith) l) }
 
 pub steps_whole_say : (s : Made) (rs : List ℕ) (k : ℕ) (p : PropId) → k + 1 ≡ length rs → MoreSteps s s rs p.0 k (properties.Property p)
-steps_whole_say s rs k p l = record { entries = refl; operands = refl; steps = lengthens_same _ _ refl; names = no_name s.steps rs k l; starts = λ h. absurd (omega arith); says = steps_whole rs (Property p.0) (k + 1) l }
+steps_whole_say s rs k p l = record { entries = refl; apart = refl; operands = refl; steps = lengthens_same _ _ refl; names = no_name s.steps rs k l; starts = λ h. absurd (omega arith); says = steps_whole rs (Property p.0) (k + 1) l }
 
 starts_class_more : (t u : Lists) → Keeps t u → (c : code_class.Class2) (ds : List ℕ) → StartsClass t c ds → StartsClass u c ds
 starts_class_more t u k (classes.Expr e) ds h = h
@@ -254,7 +254,7 @@ starts_property_more t u k (properties.Partial n) rs h = (k n rs h.0, h.1)
 pub operand_step : (s u t : Made) (ds : List ℕ) (e k : ℕ) (origin : Origin) (shorter c : code_class.Class2) (x : ExprId) → 0 < k → StartsClass s.operands shorter (take k ds) → slice_get ds k ≡ Some x.0 → MoreOperands s u ds e k c → ((g : Form) → Says u.operands u.steps (forms.N2 shorter (classes.Expr x) c) g → Adds u t (IsOne origin g)) → OperandStep s t ds e k origin c
 operand_step s u t ds e k origin shorter c x pos st gd more adds = record {
   starts = λ l. starts_class_more u.operands t.operands one.operands.keeps c (take (k + 1) ds) (more.starts l);
-  adds = from_one origin form (AndGives ds e k) (x.0, pos, gd, refl) only (adds_behind_names s u t (IsOne origin form) more.entries more.operands (lengthens_same s.steps u.steps more.steps) classes (λ n rs g. inl (ap (λ ys. slice_get ys n) (sym more.steps) ∙ g)) one);
+  adds = from_one origin form (AndGives ds e k) (x.0, pos, gd, refl) only (adds_behind_names s u t (IsOne origin form) more.entries more.apart more.operands (lengthens_same s.steps u.steps more.steps) classes (λ n rs g. inl (ap (λ ys. slice_get ys n) (sym more.steps) ∙ g)) one);
 }
   where
     form : Form
@@ -282,7 +282,7 @@ chain_step s u t rs whole k origin shorter q x pos st gd more adds same = record
     all = λ e. same ∙ more.names.all e;
   };
   starts = λ l. starts_property_more u.steps t.steps one.steps.keeps q (take (k + 1) rs) (more.starts l);
-  adds = from_one origin form (ChainGives rs whole k) (x.0, pos, gd, refl) only (adds_behind_names s u t (IsOne origin form) more.entries (lengthens_same s.operands u.operands more.operands) more.steps (λ n ds g. inl (ap (λ ys. slice_get ys n) (sym more.operands) ∙ g)) properties one);
+  adds = from_one origin form (ChainGives rs whole k) (x.0, pos, gd, refl) only (adds_behind_names s u t (IsOne origin form) more.entries more.apart (lengthens_same s.operands u.operands more.operands) more.steps (λ n ds g. inl (ap (λ ys. slice_get ys n) (sym more.operands) ∙ g)) properties one);
 }
   where
     form : Form

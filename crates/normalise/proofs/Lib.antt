@@ -15,4 +15,4 @@ pub mod Pairs
 pub mod Keeping
 pub mod ProblemForms
 pub mod AddingRoots
-pub mod AddingPairs
+pub mod AddingLists

@@ -102,7 +102,6 @@ form_there many t u (forms.N7 r) g e i = subst (AreThere many) e i
 form_there many t u (forms.N8 a b) g h i = tt
 form_there many t u (forms.N9 a r b) g h i = tt
 form_there many t u (forms.N10 a b) g h i = tt
-form_there many t u (forms.N11 a b) g h i = tt
 form_there many t u (forms.N12 a r b) g h i = tt
 
 pub named : (o : Ontology) → IsOntology o → (v : Listing) → IsNormalFor o v → All (IsPropertyFormOf (length o.names.properties) (length v.steps)) (map form_in v.entries)

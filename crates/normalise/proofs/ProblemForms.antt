@@ -10,15 +10,16 @@ use Rattle.normal_forms.specs.declared.forms.PropId2 as code_property
 use Rattle.normal_forms.specs.declared.forms.PropId2.TheVariants as properties
 use Rattle.normal_forms.specs.declared.forms.Form as code_form
 use Rattle.normal_forms.specs.declared.forms.Form.TheVariants as forms
+use Rattle.normal_forms.specs.declared.forms.Origin.{Origin}
 use Rattle.normal_forms.specs.Forms.{Class2, Property2, Form, IsForm}
 use Rattle.facts.specs.declared.contexts.Context.{Context}
 use Rattle.closure.specs.Denotations as closure
-use Rattle.closure.specs.Denotations.{Prefixes, whole, prefix, property, steps, n1, n2, n3, n4, n5, n6, n7, n8, n9, n10, n11, n12, SaysForm, IsProblemOf}
+use Rattle.closure.specs.Denotations.{Prefixes, whole, prefix, property, steps, n1, n2, n3, n4, n5, n6, n7, n8, n9, n10, n12, SaysForm, IsSaid, by_form, by_classes, by_individuals, IsProblemOf}
 use Rattle.normalise.specs.declared.entries.Entry.{Entry}
 use Rattle.normalise.specs.Entries.{form_in}
-use Rattle.normalise.specs.Growth.{IsNormalFor}
+use Rattle.normalise.specs.Growth.{IsHeldAt, IsNormalFor}
 use Rattle.normalise.specs.Listing.{Listing}
-use Rattle.normalise.specs.View.{SaysClass, SaysProperty, Says}
+use Rattle.normalise.specs.View.{SaysClass, SaysProperty, Says, Place, AtEntry, AtClasses, AtIndividuals}
 use Rattle.normalise.proofs.Grown.{listed_forms}
 use Rattle.normalise.specs.Problem.{prefixes_of, problem_of}
 use Rattle.normalise.specs.Roots.{AreRoots}
@@ -43,7 +44,6 @@ module _ (b : Prefixes) where
   says_form (forms.N8 i a) g (x, sx, is) = subst (SaysForm b (forms.N8 i a)) (sym is) (n8 refl (says_class a x sx))
   says_form (forms.N9 i r j) g is = subst (SaysForm b (forms.N9 i r j)) (sym is) (n9 refl refl refl)
   says_form (forms.N10 i j) g is = subst (SaysForm b (forms.N10 i j)) (sym is) (n10 refl refl)
-  says_form (forms.N11 i j) g is = subst (SaysForm b (forms.N11 i j)) (sym is) (n11 refl refl)
   says_form (forms.N12 i r j) g is = subst (SaysForm b (forms.N12 i r j)) (sym is) (n12 refl refl refl)
 
 module _ (o : Ontology) (v : Listing) (normal : IsNormalFor o v) where
@@ -61,17 +61,29 @@ module _ (o : Ontology) (v : Listing) (normal : IsNormalFor o v) where
       let (g, says, form) = entry_says n entry at_n in
       (g, subst (λ (x : code_form.Form). SaysForm (prefixes_of v) x g) is says, form)
 
-  all_forms : (g : Form) → IsForm o v.asked g → (f : code_form.Form) × Contains (map form_in v.entries) f × SaysForm (prefixes_of v) f g
-  all_forms g form =
-      let (n, (by, (f, at, says))) = (listed_forms o v normal).1 g form in
-      (f, Contains-from_slice_get (map form_in v.entries) n f (slice_get_map form_in v.entries n _ at), says_form (prefixes_of v) f g says)
+  module _ (roots : List Context) where
+    -- what is held is said: by an entry, or by a list of what is apart
+    held_said : (p : Place) (by : Origin) (g : Form) → IsHeldAt v p by g → IsSaid (prefixes_of v) (problem_of v roots) g
+    held_said (AtEntry n) by g (f, at, says) =
+        by_form f (Contains-from_slice_get (map form_in v.entries) n f (slice_get_map form_in v.entries n _ at)) (says_form (prefixes_of v) f g says)
+    held_said (AtClasses l m n) by g h =
+        subst (IsSaid (prefixes_of v) (problem_of v roots)) (sym h.form) (by_classes l h.one h.other (h.members, h.there, (m, n, h.later, h.at_first, h.at_second)))
+    held_said (AtIndividuals l m n) by g h =
+        subst (IsSaid (prefixes_of v) (problem_of v roots)) (sym h.form) (by_individuals l h.one h.other (h.members, h.there, (m, n, h.later, h.at_first, h.at_second)))
+
+    all_forms : (g : Form) → IsForm o v.asked g → IsSaid (prefixes_of v) (problem_of v roots) g
+    all_forms g form =
+        let (by, (p, held)) = (listed_forms o v normal).3 g form in
+        held_said p by g held
 
   pub makes_the_problem : (roots : List Context) → AreRoots o v.asked roots → IsProblemOf o v.asked (prefixes_of v) (problem_of v roots)
   makes_the_problem roots are = record {
     distinct_operands = normal.operands;
     distinct_steps = normal.steps;
     each_form = each_form;
-    all_forms = all_forms;
+    each_disjoint = (listed_forms o v normal).1;
+    each_different = (listed_forms o v normal).2;
+    all_forms = all_forms roots;
     each_root = are.each;
     all_roots = are.all;
   }

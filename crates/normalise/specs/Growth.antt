@@ -3,28 +3,53 @@ use Rattle.std.specs.Prelude.{◌≡◌, ℕ, ◌↔◌, ◌<◌, Bool, List, le
 use Rattle.std.specs.List.{All}
 use Rattle.axioms.specs.Ontology.{Ontology}
 use Rattle.axioms.specs.WellFormedness.{AreDistinct, IsOntology}
+use Rattle.axioms.specs.declared.ids.ExprId.{ExprId}
+use Rattle.axioms.specs.declared.ids.IndId.{IndId}
 use Rattle.normal_forms.specs.declared.forms.Origin.{Origin}
+use Rattle.normal_forms.specs.declared.forms.Origin.TheVariants as origins
+use Rattle.normal_forms.specs.Apart.{AreContinuedBy, AreListedAt}
 use Rattle.normal_forms.specs.Forms.{Form, IsForm}
 use Rattle.normal_forms.specs.Origins.{GivenBy}
 use Rattle.normal_forms.specs.Occurrences.{AtLeft, AtRight}
 use Rattle.normal_forms.specs.Properties.{IsPropertyFormOf}
+use Rattle.normalise.specs.Apart.{AreNumbered, different_individuals, disjoint_classes}
 use Rattle.normalise.specs.Entries.{form_in}
 use Rattle.normalise.specs.Listing.{Listing}
 use Rattle.normalise.specs.Marks.{IsMarked, MarksOccurring}
 use Rattle.normalise.specs.FreshNames.{BeginsIntersection, NameChains}
-use Rattle.normalise.specs.View.{IsAt, Keeps}
+use Rattle.normalise.specs.View.{IsAt, Keeps, Listed, Place}
+use Rattle.normalise.specs.declared.made.Made.{Made}
 
 -- the n-th form is g, of that origin
 abbrev pub Has : Listing → ℕ → Origin → Form → Type 0
 Has v n by g = IsAt v.entries v.operands v.steps n by g
 
--- the forms are those of the ontology and of what is asked about: each is given by its origin, all that is given is there, once;
--- no two fresh names stand for one list; each stands for a prefix of an intersection or of a chain, those of chains in the
--- order of their first places; and the marks are on what occurs
+-- what callers see, as what is made
+abbrev pub made_of : Listing → Made
+made_of v = record {
+  entries = v.entries;
+  apart = record { lists = v.apart; disjoint_axioms = v.disjoint_axioms; different_axioms = v.different_axioms };
+  operands = v.operands;
+  steps = v.steps;
+}
+
+-- at that place, by an entry or by a list of what is apart, g is held, of that origin
+abbrev pub IsHeldAt : Listing → Place → Origin → Form → Type 0
+IsHeldAt v p by g = Listed (made_of v) p by g
+
+abbrev pub IsHeld : Listing → Origin → Form → Type 0
+IsHeld v by g = (p : Place) × IsHeldAt v p by g
+
+-- the forms that are held are those of the ontology and of what is asked about: each is given by its origin, all that is given is held,
+-- at one place; each list has an axiom; no two fresh names stand for one list; each stands for a prefix of an intersection or of a chain,
+-- those of chains in the order of their first places; and the marks are on what occurs
 pub record IsNormalFor (o : Ontology) (v : Listing) : Type 0 where
   pub each : (n : ℕ) → n < length v.entries → (by : Origin) × ((g : Form) × Has v n by g × GivenBy o v.asked by g)
-  pub all : (by : Origin) (g : Form) → GivenBy o v.asked by g → (n : ℕ) × Has v n by g
-  pub once : (m n : ℕ) (by : Origin) (g : Form) → Has v m by g → Has v n by g → m ≡ n
+  pub each_disjoint : (l : ℕ) (c d : ExprId) → AreListedAt v.apart.classes l c d → (n : ℕ) × (slice_get v.disjoint_axioms l ≡ Some n) × GivenBy o v.asked (origins.Axiom n) (disjoint_classes c d)
+  pub each_different : (l : ℕ) (i j : IndId) → AreListedAt v.apart.individuals l i j → (n : ℕ) × (slice_get v.different_axioms l ≡ Some n) × GivenBy o v.asked (origins.Axiom n) (different_individuals i j)
+  pub all : (by : Origin) (g : Form) → GivenBy o v.asked by g → IsHeld v by g
+  pub once : (p q : Place) (by : Origin) (g : Form) → IsHeldAt v p by g → IsHeldAt v q by g → p ≡ q
+  pub numbered : AreNumbered v.apart v.disjoint_axioms v.different_axioms
   pub operands : AreDistinct v.operands
   pub steps : AreDistinct v.steps
   pub intersections : (n : ℕ) (ds : List ℕ) → slice_get v.operands n ≡ Some ds → BeginsIntersection o v.asked ds
@@ -32,11 +57,13 @@ pub record IsNormalFor (o : Ontology) (v : Listing) : Type 0 where
   pub right : MarksOccurring AtRight o v.asked v.right
   pub left : MarksOccurring AtLeft o v.asked v.left
 
--- each form that is listed is one of the definition, and each of the definition is listed
+-- each form that is listed, or that a list of what is apart holds, is one of the definition, and each of the definition is held
 abbrev pub NormalFormsAreListed : Type 0
 NormalFormsAreListed = (o : Ontology) (v : Listing) → IsNormalFor o v →
     ((n : ℕ) → n < length v.entries → (by : Origin) × ((g : Form) × Has v n by g × IsForm o v.asked g))
-    × ((g : Form) → IsForm o v.asked g → (n : ℕ) × ((by : Origin) × Has v n by g))
+    × ((l : ℕ) (c d : ExprId) → AreListedAt v.apart.classes l c d → IsForm o v.asked (disjoint_classes c d))
+    × ((l : ℕ) (i j : IndId) → AreListedAt v.apart.individuals l i j → IsForm o v.asked (different_individuals i j))
+    × ((g : Form) → IsForm o v.asked g → (by : Origin) × IsHeld v by g)
 
 -- what the listed forms of properties name is there
 abbrev pub PropertyFormsAreNamed : Type 0
@@ -55,6 +82,9 @@ AreNormalAgain p from old new = (o : Ontology) → IsNormalFor o old → Grows o
 -- what the old value has, the new one has with the same numbers
 pub record Grown (old new : Listing) : Type 0 where
   pub entries : Keeps old.entries new.entries
+  pub apart : AreContinuedBy old.apart new.apart
+  pub disjoint_axioms : Keeps old.disjoint_axioms new.disjoint_axioms
+  pub different_axioms : Keeps old.different_axioms new.different_axioms
   pub operands : Keeps old.operands new.operands
   pub steps : Keeps old.steps new.steps
 

@@ -1,4 +1,5 @@
 pub mod Entries
+pub mod Apart
 pub mod Listing
 pub mod Marks
 pub mod View

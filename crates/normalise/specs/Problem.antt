@@ -13,9 +13,9 @@ use Rattle.normalise.specs.Roots.{AreRoots}
 abbrev pub prefixes_of : Listing → Prefixes
 prefixes_of v = record { operands = v.operands; steps = v.steps }
 
--- the forms, with the roots
+-- the forms and the lists of what is apart, with the roots
 abbrev pub problem_of : Listing → List Context → Problem
-problem_of v roots = record { forms = map form_in v.entries; roots = roots }
+problem_of v roots = record { forms = map form_in v.entries; apart = v.apart; roots = roots }
 
 -- those of an ontology and its roots are what its closure speaks of
 abbrev pub NormalFormsMakeTheProblem : Type 0

@@ -49,6 +49,7 @@ pub record NamesTo (old new : Lists) (list : List ℕ) (k : ℕ) : Type 0 where
 -- c is the class of the first k + 1 operands; t is s with that in its lists
 pub record MoreOperands (s t : Made) (ds : List ℕ) (e k : ℕ) (c : code_class.Class2) : Type 0 where
   pub entries : t.entries ≡ s.entries
+  pub apart : t.apart ≡ s.apart
   pub steps : t.steps ≡ s.steps
   pub operands : Lengthens s.operands t.operands
   pub names : Names s.operands t.operands ds k
@@ -63,6 +64,7 @@ pub record OperandStep (s t : Made) (ds : List ℕ) (e k : ℕ) (origin : Origin
 -- likewise of a chain
 pub record MoreSteps (s t : Made) (rs : List ℕ) (whole k : ℕ) (q : code_property.PropId2) : Type 0 where
   pub entries : t.entries ≡ s.entries
+  pub apart : t.apart ≡ s.apart
   pub operands : t.operands ≡ s.operands
   pub steps : Lengthens s.steps t.steps
   pub names : Names s.steps t.steps rs k

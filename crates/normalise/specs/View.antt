@@ -9,7 +9,8 @@ use Rattle.normal_forms.specs.declared.forms.PropId2.TheVariants as properties
 use Rattle.normal_forms.specs.declared.forms.Form as code_form
 use Rattle.normal_forms.specs.declared.forms.Form.TheVariants as forms
 use Rattle.normal_forms.specs.declared.forms.Origin.{Origin}
-use Rattle.normal_forms.specs.Forms.{Class2, Property2, Form, Whole, Prefix, Property, Steps, N1, N2, N3, N4, N5, N6, N7, N8, N9, N10, N11, N12}
+use Rattle.normal_forms.specs.Forms.{Class2, Property2, Form, Whole, Prefix, Property, Steps, N1, N2, N3, N4, N5, N6, N7, N8, N9, N10, N12}
+use Rattle.normalise.specs.Apart.{Apartness, AreNumbered, IsOfList, different_individuals, disjoint_classes}
 use Rattle.normalise.specs.declared.entries.Entry.{Entry}
 use Rattle.normalise.specs.declared.made.Made.{Made}
 
@@ -37,7 +38,6 @@ Says t u (forms.N7 r) g = g ≡ N7 r.0
 Says t u (forms.N8 i a) g = (x : Class2) × SaysClass t a x × (g ≡ N8 i.0 x)
 Says t u (forms.N9 a r b) g = g ≡ N9 a.0 r.0 b.0
 Says t u (forms.N10 a b) g = g ≡ N10 a.0 b.0
-Says t u (forms.N11 a b) g = g ≡ N11 a.0 b.0
 Says t u (forms.N12 a r b) g = g ≡ N12 a.0 r.0 b.0
 
 -- the n-th form is g, of that origin
@@ -53,10 +53,36 @@ pub record Lengthens {X : Type 0} (xs ys : List X) : Type 0 where
   pub keeps : Keeps xs ys
   pub distinct : AreDistinct xs → AreDistinct ys
 
+-- the second has the lists of the first, with the same numbers and axioms; each list that the first has not has an axiom, too; and there are
+-- as many axioms as lists, where there are in the first
+pub record KeepsApart (a b : Apartness) : Type 0 where
+  pub classes : Keeps a.lists.classes b.lists.classes
+  pub individuals : Keeps a.lists.individuals b.lists.individuals
+  pub disjoint_axioms : Keeps a.disjoint_axioms b.disjoint_axioms
+  pub different_axioms : Keeps a.different_axioms b.different_axioms
+  pub classes_numbered : (l : ℕ) → length a.lists.classes ≤ l → l < length b.lists.classes → (n : ℕ) × (slice_get b.disjoint_axioms l ≡ Some n)
+  pub individuals_numbered : (l : ℕ) → length a.lists.individuals ≤ l → l < length b.lists.individuals → (n : ℕ) × (slice_get b.different_axioms l ≡ Some n)
+  pub numbered : AreNumbered a.lists a.disjoint_axioms a.different_axioms → AreNumbered b.lists b.disjoint_axioms b.different_axioms
+
 -- ---- what is made
 
-abbrev pub Listed : Made → ℕ → Origin → Form → Type 0
-Listed s n o g = IsAt s.entries s.operands s.steps n o g
+-- where a form can stand: as the entry of that number, or as two members, by their places, of the list of that number
+pub data Place : Type 0 where
+  AtEntry : (number : ℕ) → Place
+  AtClasses : (list first second : ℕ) → Place
+  AtIndividuals : (list first second : ℕ) → Place
+
+-- g, of that origin, is held at the place
+abbrev pub Listed : Made → Place → Origin → Form → Type 0
+Listed s (AtEntry n) o g = IsAt s.entries s.operands s.steps n o g
+Listed s (AtClasses l m n) o g = IsOfList disjoint_classes s.apart.lists.classes s.apart.disjoint_axioms l m n o g
+Listed s (AtIndividuals l m n) o g = IsOfList different_individuals s.apart.lists.individuals s.apart.different_axioms l m n o g
+
+-- the place is behind all entries, or behind all lists of its kind
+abbrev pub IsBehind : Made → Place → Type 0
+IsBehind s (AtEntry n) = length s.entries ≤ n
+IsBehind s (AtClasses l _ _) = length s.apart.lists.classes ≤ l
+IsBehind s (AtIndividuals l _ _) = length s.apart.lists.individuals ≤ l
 
 -- one of the forms has the prefix last
 abbrev pub HasClass : (Origin → Form → Type 0) → List ℕ → Type 0
@@ -65,15 +91,17 @@ HasClass G ds = (o : Origin) × (a : Class2) × (b : Class2) × G o (N2 a b (Pre
 abbrev pub HasProperty : (Origin → Form → Type 0) → List ℕ → Type 0
 HasProperty G rs = (o : Origin) × (p : Property2) × (q : Property2) × G o (N6 p q (Steps rs))
 
--- t is s with more forms: those that G has, and no others, each once; and with more fresh names, each of what one of these forms
--- has last
+-- t is s with more forms, by entries or by lists of what is apart: those that G has, and no others, each once; and with more fresh names,
+-- each of what one of these forms has last
 pub record Adds (s t : Made) (G : Origin → Form → Type 0) : Type 0 where
   pub entries : Keeps s.entries t.entries
+  pub apart : KeepsApart s.apart t.apart
   pub operands : Lengthens s.operands t.operands
   pub steps : Lengthens s.steps t.steps
-  pub each : (n : ℕ) → length s.entries ≤ n → n < length t.entries → (o : Origin) × ((g : Form) × Listed t n o g × G o g)
-  pub all : (o : Origin) (g : Form) → G o g → (n : ℕ) × (length s.entries ≤ n) × Listed t n o g
-  pub once : (m n : ℕ) (o : Origin) (g : Form) → length s.entries ≤ m → length s.entries ≤ n → Listed t m o g → Listed t n o g → m ≡ n
+  pub says : (n : ℕ) → length s.entries ≤ n → n < length t.entries → (o : Origin) × ((g : Form) × Listed t (AtEntry n) o g)
+  pub each : (p : Place) (o : Origin) (g : Form) → IsBehind s p → Listed t p o g → G o g
+  pub all : (o : Origin) (g : Form) → G o g → (p : Place) × IsBehind s p × Listed t p o g
+  pub once : (p q : Place) (o : Origin) (g : Form) → IsBehind s p → IsBehind s q → Listed t p o g → Listed t q o g → p ≡ q
   pub classes : (n : ℕ) (ds : List ℕ) → slice_get t.operands n ≡ Some ds → (slice_get s.operands n ≡ Some ds) ⊎ HasClass G ds
   pub properties : (n : ℕ) (rs : List ℕ) → slice_get t.steps n ≡ Some rs → (slice_get s.steps n ≡ Some rs) ⊎ HasProperty G rs
 

@@ -3,7 +3,8 @@ ghost use Rattle.std.specs.Prelude.{◌≡◌, ℕ, ◌+◌, ◌<◌, ◌≤◌,
 ghost use Rattle.axioms.specs.Ontology.{Axiom as Stated, SubProperty};
 ghost use Rattle.axioms.specs.View.{axiom_of, expr_numbers, ind_numbers, prop_numbers};
 ghost use Rattle.axioms.specs.WellFormedness.{AreDistinct};
-ghost use Rattle.normal_forms.specs.Forms.{N5, N10, N11};
+ghost use Rattle.normal_forms.specs.declared.forms.Origin.TheVariants as origins;
+ghost use Rattle.normal_forms.specs.Forms.{N5, N10};
 ghost use Rattle.normal_forms.specs.Origins.{AxiomGives, CircleGives, NextGives, PairGives, disjoint, subsumed};
 ghost use Rattle.normalise.specs.FreshNames.{prefixes_of, chain_prefixes};
 ghost use Rattle.normalise.specs.Steps.{NameMoreChains, NumbersBehind, OperandsDiffer, StatedFrom};
@@ -14,8 +15,8 @@ use crate::made::Made;
 use axioms::{Axiom, ExprId, IndId, Memory, PropId};
 use normal_forms::{Class2, Form, Origin, PropId2};
 
-// From so many classes on, the forms of their pairs are one piece of the list, and memory goes by the classes. Fewer have a form for each
-// two: those are found in the index of forms, which costs less than to find a pair by the lists that its classes are in.
+// From so many classes on, they are one list, and memory goes by the classes. Fewer have a form for each two: those are found in the index
+// of forms, which costs less than to find a pair by the lists that its classes are in.
 const MANY_CLASSES: usize = 8;
 
 impl Made {
@@ -98,15 +99,15 @@ impl Made {
         Ok(())
     }
 
-    // No two of the classes have anything in common.
-    fn disjoint(&mut self, classes: &[ExprId], origin: Origin) -> Result<(), Memory>
+    // No two of the classes have anything in common, by the axiom of that number.
+    fn disjoint(&mut self, classes: &[ExprId], number: usize) -> Result<(), Memory>
         requires { AreDistinct (expr_numbers classes.now) }
-        ensures { OnOk result (Adds self.old self.new (From origin (λ g. (m : ℕ) × ((n : ℕ) × PairGives disjoint (expr_numbers classes.now) m n g)))) }
+        ensures { OnOk result (Adds self.old self.new (From (origins.Axiom number) (λ g. (m : ℕ) × ((n : ℕ) × PairGives disjoint (expr_numbers classes.now) m n g)))) }
     {
         if classes.len() < MANY_CLASSES {
-            self.each_apart(classes, origin)?;
+            self.each_apart(classes, Origin::Axiom(number))?;
         } else {
-            self.add_disjoint(classes, origin)?;
+            self.add_disjoint(classes, number)?;
         }
         Ok(())
     }
@@ -138,47 +139,6 @@ impl Made {
         Ok(())
     }
 
-    // Two individuals, the second at a later place, are two.
-    fn differ(
-        &mut self,
-        individuals: &[IndId],
-        m: usize,
-        n: usize,
-        origin: Origin,
-    ) -> Result<(), Memory>
-        requires later { m < n }
-        requires within { n < length individuals.now }
-        ensures { OnOk result (Adds self.old self.new (From origin (PairGives N11 (ind_numbers individuals.now) m n))) }
-    {
-        let one = individual_at(individuals, m);
-        let other = individual_at(individuals, n);
-        self.add(Form::N11(one, other), origin)?;
-        Ok(())
-    }
-
-    // The m-th individual and any later one are two.
-    fn differs(&mut self, individuals: &[IndId], m: usize, origin: Origin) -> Result<(), Memory>
-        requires within { m < length individuals.now }
-        requires distinct { AreDistinct (ind_numbers individuals.now) }
-        ensures { OnOk result (Adds self.old self.new (From origin (λ g. (n : ℕ) × PairGives N11 (ind_numbers individuals.now) m n g))) }
-    {
-        for n in m + 1..individuals.len() {
-            self.differ(individuals, m, n, origin)?;
-        }
-        Ok(())
-    }
-
-    // No two of the individuals are one.
-    fn different(&mut self, individuals: &[IndId], origin: Origin) -> Result<(), Memory>
-        requires { AreDistinct (ind_numbers individuals.now) }
-        ensures { OnOk result (Adds self.old self.new (From origin (λ g. (m : ℕ) × ((n : ℕ) × PairGives N11 (ind_numbers individuals.now) m n g)))) }
-    {
-        for m in 0..individuals.len() {
-            self.differs(individuals, m, origin)?;
-        }
-        Ok(())
-    }
-
     // A chain, or the plain form.
     fn sub_property(
         &mut self,
@@ -197,18 +157,19 @@ impl Made {
         Ok(())
     }
 
-    // What the axiom gives by itself.
-    fn state(&mut self, axiom: &Axiom, origin: Origin) -> Result<(), Memory>
+    // What the axiom of that number gives by itself.
+    fn state(&mut self, axiom: &Axiom, number: usize) -> Result<(), Memory>
         requires { OperandsDiffer (axiom_of «axiom».now) }
-        ensures forms { OnOk result (Adds self.old self.new (From origin (AxiomGives (axiom_of «axiom».now)))) }
+        ensures forms { OnOk result (Adds self.old self.new (From (origins.Axiom number) (AxiomGives (axiom_of «axiom».now)))) }
         ensures names { OnOk result (NumbersBehind self.old.steps (chain_prefixes (axiom_of «axiom».now)) self.new.steps) }
     {
+        let origin = Origin::Axiom(number);
         match axiom {
             Axiom::SubClass(sub, sup) => {
                 self.add(Form::N1(Class2::Expr(*sub), Class2::Expr(*sup)), origin)?
             }
             Axiom::EquivalentClasses(classes) => self.circle(classes, origin)?,
-            Axiom::DisjointClasses(classes) => self.disjoint(classes, origin)?,
+            Axiom::DisjointClasses(classes) => self.disjoint(classes, number)?,
             Axiom::SubProperty(steps, whole) => self.sub_property(steps, *whole, origin)?,
             Axiom::EquivalentProperties(props) => self.property_circle(props, origin)?,
             Axiom::Domain(prop, class) => self.add(
@@ -227,7 +188,7 @@ impl Made {
                 self.add(Form::N9(*source, *prop, *target), origin)?
             }
             Axiom::SameIndividuals(individuals) => self.same(individuals, origin)?,
-            Axiom::DifferentIndividuals(individuals) => self.different(individuals, origin)?,
+            Axiom::DifferentIndividuals(individuals) => self.add_different(individuals, number)?,
             Axiom::NegativePropertyAssertion(prop, source, target) => {
                 self.add(Form::N12(*source, *prop, *target), origin)?
             }
@@ -243,7 +204,7 @@ impl Made {
         ensures names { OnOk result (NameMoreChains (map axiom_of axioms.now) from self.old.steps self.new.steps) }
     {
         for k in from..axioms.len() {
-            self.state(&axioms[k], Origin::Axiom(k + 1))?;
+            self.state(&axioms[k], k + 1)?;
         }
         Ok(())
     }

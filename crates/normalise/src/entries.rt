@@ -1,10 +1,10 @@
 //! Forms in a row, each with what gave it.
-ghost use Rattle.normal_forms.specs.Pairs.{disjoint_form, pairs};
-ghost use Rattle.std.specs.Prelude.{◌≡◌, [], ◌∷◌, ◌++◌, IfOk, OnErr, OnOk, map, option_map, slice_get};
-ghost use Rattle.normalise.specs.Entries.{form_in, origin_found, origin_in, with_origin};
+ghost use Rattle.normal_forms.specs.StoredForms.{origin_of};
+ghost use Rattle.std.specs.Prelude.{◌≡◌, [], ◌∷◌, ◌++◌, IfOk, OnErr, OnOk, length, map, option_map, slice_get};
+ghost use Rattle.normalise.specs.Entries.{form_in, origin_in};
 
-use axioms::{ExprId, Memory};
-use normal_forms::{Form, FormList, Found, Origin, StoredOrigin, Stretches, count_pairs};
+use axioms::Memory;
+use normal_forms::{Form, FormList, Origin, StoredOrigin};
 use std::alloc::Global;
 use std::marker::Model;
 
@@ -18,8 +18,8 @@ pub struct Entry {
 /// Forms, each with what gave it. The forms alone are a list too.
 pub(crate) struct Entries {
     forms: FormList,
-    // as many, one for all forms that an axiom adds as one piece
-    origins: Stretches<StoredOrigin, StoredOrigin>,
+    // as many
+    origins: Vec<StoredOrigin>,
 }
 
 // A value is let go by one call, where each way out would else let each field go.
@@ -33,25 +33,41 @@ impl Drop for Entries {
 }
 
 impl Model for Entries {
-    ghost use Rattle.std.specs.Prelude.{◌≡◌, List, length};
+    ghost use Rattle.normal_forms.specs.StoredForms.{origin_of};
+    ghost use Rattle.std.specs.Prelude.{◌≡◌, List, length, map};
     ghost use Rattle.normalise.specs.declared.entries.Entry.{Entry};
-    ghost use Rattle.normalise.specs.Entries.{paired, spread};
+    ghost use Rattle.normalise.specs.Entries.{paired};
 
     ghost Value = { List Entry };
 
-    ghost view = { λ e. paired e.forms (spread e.origins) };
+    ghost view = { λ e. paired e.forms (map origin_of e.origins.items) };
 
-    ghost invariant = { λ e. length (spread e.origins) ≡ length e.forms };
+    ghost invariant = { λ e. length e.origins.items ≡ length e.forms };
 }
 
-// The origin that a number falls on.
-fn origin_of_found(found: Found<StoredOrigin, StoredOrigin>) -> Origin
-    ensures { result ≡ origin_found found }
+fn origin_at(origins: &[StoredOrigin], place: usize) -> Option<Origin>
+    ensures { result ≡ slice_get (map origin_of origins.now) place }
 {
-    match found {
-        Found::One(origin) => origin.get(),
-        Found::Within(origin, _, _) => origin.get(),
+    let origin = origins.get(place)?;
+    Some(origin.get())
+}
+
+// The origins of the first list, and then those of the second. Where the first has none, they stay where they are.
+fn joined(
+    alloc: Global,
+    first: &[StoredOrigin],
+    second: Vec<StoredOrigin>,
+) -> Result<Vec<StoredOrigin>, Memory>
+    ensures { IfOk result (λ all. all.items ≡ first.now ++ second.items) }
+{
+    if first.is_empty() {
+        return Ok(second);
     }
+    let count = first.len().saturating_add(second.len());
+    let mut all = Vec::with_capacity(alloc, count)?;
+    all.extend_from_slice(first)?;
+    all.extend_from_slice(&second)?;
+    Ok(all)
 }
 
 impl Entries {
@@ -61,7 +77,7 @@ impl Entries {
     {
         Entries {
             forms: FormList::new(alloc),
-            origins: Stretches::new(alloc),
+            origins: Vec::new(alloc),
         }
     }
 
@@ -75,8 +91,7 @@ impl Entries {
     pub(crate) fn origin(&self, place: usize) -> Option<Origin>
         ensures { result ≡ option_map origin_in (slice_get self.now place) }
     {
-        let found = self.origins.find(place)?;
-        Some(origin_of_found(found))
+        origin_at(&self.origins, place)
     }
 
     // Adds a form.
@@ -87,56 +102,29 @@ impl Entries {
         let Some(origin) = StoredOrigin::new(entry.origin) else {
             return Err(Memory);
         };
-        self.origins.push(origin)?;
-        match self.forms.push(entry.form) {
-            Ok(()) => Ok(()),
-            Err(_) => {
-                self.origins.pop();
-                Err(Memory)
-            }
-        }
+        self.origins.reserve(1)?;
+        self.forms.push(entry.form)?;
+        self.origins.push_reserved(origin);
+        Ok(())
     }
 
-    // Adds the form of each two of the classes, which says that they have nothing in common.
-    pub(crate) fn push_disjoint(&mut self, classes: &[ExprId], origin: Origin) -> Result<(), Memory>
-        ensures ok { OnOk result (self.new ≡ self.old ++ map (with_origin origin) (pairs disjoint_form classes.now)) }
-        ensures err { OnErr result (self.new ≡ self.old) }
-    {
-        let Some(stored) = StoredOrigin::new(origin) else {
-            return Err(Memory);
-        };
-        let Some(count) = count_pairs(classes) else {
-            return Err(Memory);
-        };
-        self.origins.push_stretch(stored, count)?;
-        match self.forms.push_disjoint(classes) {
-            Ok(()) => Ok(()),
-            Err(_) => {
-                self.origins.pop();
-                Err(Memory)
-            }
-        }
-    }
-
-    // These forms, and the others behind them. Where there are none of these, the others stay where they are.
-    pub(crate) fn joined(&self, more: Entries) -> Result<Entries, Memory>
+    // These forms, and the others behind them.
+    pub(crate) fn joined(&self, alloc: Global, more: Entries) -> Result<Entries, Memory>
         ensures { IfOk result (λ e. e ≡ self.now ++ more) }
     {
-        if self.forms.len() == 0 {
-            return Ok(more);
-        }
         let Entries { forms, origins } = more;
         let forms = self.forms.joined(forms)?;
-        let origins = self.origins.joined(&origins)?;
+        let origins = joined(alloc, &self.origins, origins)?;
         Ok(Entries { forms, origins })
     }
 
     // The same.
-    pub(crate) fn copy(&self) -> Result<Entries, Memory>
+    pub(crate) fn copy(&self, alloc: Global) -> Result<Entries, Memory>
         ensures { IfOk result (λ e. e ≡ self.now) }
     {
         let forms = self.forms.copy()?;
-        let origins = self.origins.copy()?;
+        let mut origins = Vec::new(alloc);
+        origins.extend_from_slice(&self.origins)?;
         Ok(Entries { forms, origins })
     }
 

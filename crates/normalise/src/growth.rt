@@ -91,7 +91,7 @@ impl Normal {
             right,
             left,
         } = more;
-        let made = self.made.joined(made)?;
+        let made = self.made.joined(self.alloc, made)?;
         Ok(Normal {
             alloc: self.alloc,
             made,

@@ -1,6 +1,7 @@
 //! The normal forms of an ontology, and the contexts that are there from the start: what is saturated.
 #![tactic(auto)]
 
+mod apart;
 mod axiom_forms;
 mod entries;
 mod expression_forms;
@@ -23,7 +24,7 @@ mod theory;
 pub use entries::Entry;
 pub use growth::normalise;
 pub use normal::Normal;
-pub use normal_forms::{Class2, Form, FormList, Origin, PropId2};
+pub use normal_forms::{ApartLists, Class2, Form, FormList, Origin, PropId2};
 pub use problem::normal_forms_make_the_problem;
 pub use starting::{roots, roots_from};
 pub use theory::{normal_forms_are_listed, property_forms_are_named};

@@ -1,21 +1,26 @@
-//! A list of forms that grows, with its tables of prefixes.
+//! Forms that become more, by a list of them and by lists of what is apart, with the tables of their prefixes.
 ghost use Rattle.std.specs.Prelude.{◌≡◌, ℕ, ◌++◌, [], IfOk, OnOk};
-ghost use Rattle.axioms.specs.View.{expr_numbers};
+ghost use Rattle.axioms.specs.View.{expr_numbers, ind_numbers};
 ghost use Rattle.axioms.specs.WellFormedness.{AreDistinct};
-ghost use Rattle.normal_forms.specs.Forms.{Form as Formed};
+ghost use Rattle.normal_forms.specs.Forms.{Form as Formed, N11};
 ghost use Rattle.normal_forms.specs.Origins.{PairGives, disjoint};
+ghost use Rattle.normal_forms.specs.declared.forms.Origin.TheVariants as origins;
+ghost use Rattle.normalise.specs.Apart.{joined_apartness, no_apartness};
 ghost use Rattle.normalise.specs.View.{Adds, From, IsOne, Says};
 
+use crate::apart::Apart;
 use crate::entries::{Entries, Entry};
 use crate::table::Prefixes;
-use axioms::{ExprId, Memory, PropId};
+use axioms::{ExprId, IndId, Memory, PropId};
 use normal_forms::{Form, Origin};
 use std::alloc::Global;
 use std::hash::RandomState;
 
-/// Forms, each with what gave it, and the lists that their fresh names stand for.
+/// Forms, each with what gave it, lists of what is apart that hold the forms of each two members, and the lists that the fresh names of the
+/// forms stand for.
 pub(crate) struct Made {
     pub(crate) entries: Entries,
+    pub(crate) apart: Apart,
     pub(crate) operands: Prefixes<ExprId>,
     pub(crate) steps: Prefixes<PropId>,
 }
@@ -25,6 +30,7 @@ impl Drop for Made {
     fn drop(self) {
         let Made {
             entries: _,
+            apart: _,
             operands: _,
             steps: _,
         } = self;
@@ -35,11 +41,13 @@ impl Made {
     // No forms.
     pub(crate) fn new(alloc: Global, state: RandomState) -> Made
         ensures entries { result.entries ≡ [] }
+        ensures apart { result.apart ≡ no_apartness }
         ensures operands { result.operands ≡ [] }
         ensures steps { result.steps ≡ [] }
     {
         Made {
             entries: Entries::new(alloc),
+            apart: Apart::new(alloc),
             operands: Prefixes::new(alloc, state),
             steps: Prefixes::new(alloc, state),
         }
@@ -49,11 +57,13 @@ impl Made {
     pub(crate) fn copy(&self, alloc: Global) -> Result<Made, Memory>
         ensures { IfOk result (λ m. m ≡ self.now) }
     {
-        let entries = self.entries.copy()?;
+        let entries = self.entries.copy(alloc)?;
+        let apart = self.apart.copy(alloc)?;
         let operands = self.operands.copy(alloc)?;
         let steps = self.steps.copy(alloc)?;
         Ok(Made {
             entries,
+            apart,
             operands,
             steps,
         })
@@ -62,6 +72,7 @@ impl Made {
     // No forms, with the same fresh names.
     pub(crate) fn begun(&self, alloc: Global) -> Result<Made, Memory>
         ensures entries { IfOk result (λ m. m.entries ≡ []) }
+        ensures apart { IfOk result (λ m. m.apart ≡ no_apartness) }
         ensures operands { IfOk result (λ m. m.operands ≡ self.now.operands) }
         ensures steps { IfOk result (λ m. m.steps ≡ self.now.steps) }
     {
@@ -69,6 +80,7 @@ impl Made {
         let steps = self.steps.copy(alloc)?;
         Ok(Made {
             entries: Entries::new(alloc),
+            apart: Apart::new(alloc),
             operands,
             steps,
         })
@@ -80,30 +92,36 @@ impl Made {
     {
         let Made {
             entries,
+            apart,
             operands,
             steps,
         } = self;
         Made {
             entries: entries.share(),
+            apart,
             operands,
             steps,
         }
     }
 
     // These forms, and the others behind them, with the fresh names of those.
-    pub(crate) fn joined(&self, more: Made) -> Result<Made, Memory>
+    pub(crate) fn joined(&self, alloc: Global, more: Made) -> Result<Made, Memory>
         ensures entries { IfOk result (λ m. m.entries ≡ self.now.entries ++ more.entries) }
+        ensures apart { IfOk result (λ m. m.apart ≡ joined_apartness self.now.apart more.apart) }
         ensures operands { IfOk result (λ m. m.operands ≡ more.operands) }
         ensures steps { IfOk result (λ m. m.steps ≡ more.steps) }
     {
         let Made {
             entries,
+            apart,
             operands,
             steps,
         } = more;
-        let entries = self.entries.joined(entries)?;
+        let entries = self.entries.joined(alloc, entries)?;
+        let apart = self.apart.joined(alloc, &apart)?;
         Ok(Made {
             entries,
+            apart,
             operands,
             steps,
         })
@@ -117,12 +135,25 @@ impl Made {
         Ok(())
     }
 
-    // No two of the classes have anything in common, as one piece of the list.
-    pub(crate) fn add_disjoint(&mut self, classes: &[ExprId], origin: Origin) -> Result<(), Memory>
+    // No two of the classes have anything in common, by one list, of the axiom of that number.
+    pub(crate) fn add_disjoint(&mut self, classes: &[ExprId], number: usize) -> Result<(), Memory>
         requires { AreDistinct (expr_numbers classes.now) }
-        ensures { OnOk result (Adds self.old self.new (From origin (λ g. (m : ℕ) × ((n : ℕ) × PairGives disjoint (expr_numbers classes.now) m n g)))) }
+        ensures { OnOk result (Adds self.old self.new (From (origins.Axiom number) (λ g. (m : ℕ) × ((n : ℕ) × PairGives disjoint (expr_numbers classes.now) m n g)))) }
     {
-        self.entries.push_disjoint(classes, origin)?;
+        self.apart.push_classes(classes, number)?;
+        Ok(())
+    }
+
+    // No two of the individuals are one, by one list, of the axiom of that number.
+    pub(crate) fn add_different(
+        &mut self,
+        individuals: &[IndId],
+        number: usize,
+    ) -> Result<(), Memory>
+        requires { AreDistinct (ind_numbers individuals.now) }
+        ensures { OnOk result (Adds self.old self.new (From (origins.Axiom number) (λ g. (m : ℕ) × ((n : ℕ) × PairGives N11 (ind_numbers individuals.now) m n g)))) }
+    {
+        self.apart.push_individuals(individuals, number)?;
         Ok(())
     }
 }

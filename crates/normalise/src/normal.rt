@@ -1,16 +1,18 @@
 //! The normal forms of an ontology.
 ghost use Rattle.std.specs.Prelude.{◌≡◌, ◌<◌, ◌^◌, length, IfOk, map, option_map, slice_get, []};
 ghost use Rattle.axioms.specs.View.{expr_numbers, prop_numbers};
+ghost use Rattle.normal_forms.specs.Apart.{no_lists};
 ghost use Rattle.normalise.specs.Entries.{form_in, origin_in};
 
 use crate::made::Made;
 use axioms::{ExprId, Memory, PropId};
-use normal_forms::{FormList, Origin};
+use normal_forms::{ApartLists, FormList, Origin};
 use std::alloc::Global;
 use std::hash::RandomState;
 use std::marker::Model;
 
-/// The normal forms of an ontology and of expressions that are asked about, each with what gave it.
+/// The normal forms of an ontology and of expressions that are asked about, each with what gave it: as a list of forms, and as lists of what
+/// is apart.
 pub struct Normal {
     pub(crate) alloc: Global,
     pub(crate) made: Made,
@@ -41,6 +43,9 @@ impl Model for Normal {
 
     ghost view = { λ n. record {
       entries = n.made.entries;
+      apart = n.made.apart.lists;
+      disjoint_axioms = n.made.apart.disjoint_axioms;
+      different_axioms = n.made.apart.different_axioms;
       operands = n.made.operands;
       steps = n.made.steps;
       asked = expr_numbers n.asked.items;
@@ -52,7 +57,7 @@ impl Model for Normal {
 impl Normal {
     // No forms.
     pub(crate) fn empty(alloc: Global, state: RandomState) -> Normal
-        ensures { result ≡ record { entries = []; operands = []; steps = []; asked = []; right = []; left = [] } }
+        ensures { result ≡ record { entries = []; apart = no_lists; disjoint_axioms = []; different_axioms = []; operands = []; steps = []; asked = []; right = []; left = [] } }
     {
         Normal {
             alloc,
@@ -75,6 +80,27 @@ impl Normal {
         ensures { result ≡ option_map origin_in (slice_get self.now.entries number) }
     {
         self.made.entries.origin(number)
+    }
+
+    /// The lists of what is apart. They hold the forms of each two of their members.
+    pub fn apart(&self) -> &ApartLists
+        ensures { result.now ≡ self.now.apart }
+    {
+        self.made.apart.lists()
+    }
+
+    /// The number, from 1, of the axiom that gave the list of disjoint classes of that number.
+    pub fn disjoint_axiom(&self, list: usize) -> Option<usize>
+        ensures { result ≡ slice_get self.now.disjoint_axioms list }
+    {
+        self.made.apart.disjoint_axiom(list)
+    }
+
+    /// The number, from 1, of the axiom that gave the list of different individuals of that number.
+    pub fn different_axiom(&self, list: usize) -> Option<usize>
+        ensures { result ≡ slice_get self.now.different_axioms list }
+    {
+        self.made.apart.different_axiom(list)
     }
 
     /// The operands that the fresh name [`Class2::Partial`](normal_forms::Class2::Partial) of that number stands for.

@@ -2,10 +2,9 @@
 use Rattle.std.proofs.Common.{◌≡◌, ℕ, ◌⊎◌, inl, inr, ⊎_elim, Bool, true, false, not, eqb, Option, List, [], ◌∷◌, length, arith, Some, Contains, refl, sym, ap, subst, ◌∙◌}
 use Rattle.std.proofs.lemmas.Bool.{false≢true}
 use Rattle.std.proofs.lemmas.Option.{none-some, same_Some}
-use Rattle.axioms.specs.declared.ids.ExprId.{ExprId}
 use Rattle.axioms.specs.declared.ids.IndId.{IndId}
 use Rattle.normal_forms.specs.declared.forms.Form.{Form}
-use Rattle.normal_forms.specs.declared.forms.Form.TheVariants.{N1, N2, N3, N4, N5, N6, N7, N8, N9, N10, N11, N12}
+use Rattle.normal_forms.specs.declared.forms.Form.TheVariants.{N1, N2, N3, N4, N5, N6, N7, N8, N9, N10, N12}
 use Rattle.normal_forms.specs.declared.forms.Class2.{Class2}
 use Rattle.normal_forms.specs.declared.forms.Class2.TheVariants as class
 use Rattle.normal_forms.specs.declared.forms.PropId2.{PropId2}
@@ -13,13 +12,13 @@ use Rattle.normal_forms.specs.declared.forms.PropId2.TheVariants as property
 use Rattle.normal_forms.specs.Properties.{IsAtOrBelow}
 use Rattle.indexes.specs.declared.keys.Key.{Key}
 use Rattle.facts.specs.declared.contexts.Context.{Context}
-use Rattle.facts.specs.declared.contexts.Context.TheVariants.{Expr, Individual}
-use Rattle.facts.specs.declared.contexts.Fact.TheVariants.{Edge}
+use Rattle.facts.specs.declared.contexts.Context.TheVariants.{Individual}
+use Rattle.facts.specs.declared.contexts.Fact.TheVariants.{In, Edge}
 use Rattle.facts.specs.Closure.{thing}
 use Rattle.indexes.specs.declared.keys.Key.TheVariants.{Whole}
 use Rattle.indexes.specs.Keys.{class_key, property_key, individual_key, by_kind, by_alone, by_first, by_filler, by_chain, by_plain, by_linked_first, by_linked_second, by_denied, by_target}
 use Rattle.indexes.specs.FormsUnderKeys.{IsUnder}
-use Rattle.saturate.specs.Requests.{BeginsWith, Denies, HasForm, NamesAbove, NamesClass, NamesIndividual}
+use Rattle.saturate.specs.Requests.{Asks, BeginsWith, Denies, HasForm, NamesAbove, NamesClass, NamesIndividual}
 use Rattle.inference.proofs.Lists.{Contains-from_slice_get, slice_get-from_Contains}
 
 -- a list that is not empty has some number
@@ -70,7 +69,6 @@ module _ (c : Class2) where
   alone (N8 _ _) e = absurd (none-some _ e)
   alone (N9 _ _ _) e = absurd (none-some _ e)
   alone (N10 _ _) e = absurd (none-some _ e)
-  alone (N11 _ _) e = absurd (none-some _ e)
   alone (N12 _ _ _) e = absurd (none-some _ e)
 
   pub first : (form : Form) → by_first form ≡ Some (class_key c) → NamesClass form c
@@ -84,7 +82,6 @@ module _ (c : Class2) where
   first (N8 _ _) e = absurd (none-some _ e)
   first (N9 _ _ _) e = absurd (none-some _ e)
   first (N10 _ _) e = absurd (none-some _ e)
-  first (N11 _ _) e = absurd (none-some _ e)
   first (N12 _ _ _) e = absurd (none-some _ e)
 
   -- a form that makes a property reflexive names owl:Thing
@@ -99,7 +96,6 @@ module _ (c : Class2) where
   loops (N8 _ _) is e = absurd (cc)
   loops (N9 _ _ _) is e = absurd (cc)
   loops (N10 _ _) is e = absurd (none-some _ e)
-  loops (N11 _ _) is e = absurd (cc)
   loops (N12 _ _ _) is e = absurd (none-some _ e)
 
   pub filler : (form : Form) → by_filler form ≡ Some (class_key c) → NamesClass form c
@@ -113,7 +109,6 @@ module _ (c : Class2) where
   filler (N8 _ _) e = absurd (none-some _ e)
   filler (N9 _ _ _) e = absurd (none-some _ e)
   filler (N10 _ _) e = absurd (none-some _ e)
-  filler (N11 _ _) e = absurd (none-some _ e)
   filler (N12 _ _ _) e = absurd (none-some _ e)
 
   key : (form : Form) → NamesClass form c → (by_alone form ≡ Some (class_key c)) ⊎ ((by_first form ≡ Some (class_key c)) ⊎ ((by_filler form ≡ Some (class_key c)) ⊎ ((c ≡ thing) × (by_kind form ≡ Some (Whole 1)))))
@@ -127,7 +122,6 @@ module _ (c : Class2) where
   key (N8 _ _) h = absurd h
   key (N9 _ _ _) h = absurd h
   key (N10 _ _) h = absurd h
-  key (N11 _ _) h = absurd h
   key (N12 _ _ _) h = absurd h
 
   -- where none is under one of the keys none names the class
@@ -151,7 +145,6 @@ plain p (N7 _) e = absurd (none-some _ e)
 plain p (N8 _ _) e = absurd (none-some _ e)
 plain p (N9 _ _ _) e = absurd (none-some _ e)
 plain p (N10 _ _) e = absurd (none-some _ e)
-plain p (N11 _ _) e = absurd (none-some _ e)
 plain p (N12 _ _ _) e = absurd (none-some _ e)
 
 pub chain : (p : PropId2) (form : Form) → by_chain form ≡ Some (property_key p) → BeginsWith form p
@@ -165,7 +158,6 @@ chain p (N7 _) e = absurd (none-some _ e)
 chain p (N8 _ _) e = absurd (none-some _ e)
 chain p (N9 _ _ _) e = absurd (none-some _ e)
 chain p (N10 _ _) e = absurd (none-some _ e)
-chain p (N11 _ _) e = absurd (none-some _ e)
 chain p (N12 _ _ _) e = absurd (none-some _ e)
 
 prefix : (p : PropId2) (form : Form) → BeginsWith form p → (by_plain form ≡ Some (property_key p)) ⊎ (by_chain form ≡ Some (property_key p))
@@ -179,7 +171,6 @@ prefix p (N7 _) h = absurd h
 prefix p (N8 _ _) h = absurd h
 prefix p (N9 _ _ _) h = absurd h
 prefix p (N10 _ _) h = absurd h
-prefix p (N11 _ _) h = absurd h
 prefix p (N12 _ _ _) h = absurd h
 
 pub not_begun : (added : List Form) (p : PropId2) → ((n : ℕ) → IsUnder by_plain added (property_key p) n → ⊥) → ((n : ℕ) → IsUnder by_chain added (property_key p) n → ⊥) → HasForm (λ form. BeginsWith form p) added → ⊥
@@ -201,7 +192,6 @@ begins_above all p r low (N7 _) begins = absurd begins
 begins_above all p r low (N8 _ _) begins = absurd begins
 begins_above all p r low (N9 _ _ _) begins = absurd begins
 begins_above all p r low (N10 _ _) begins = absurd begins
-begins_above all p r low (N11 _ _) begins = absurd begins
 begins_above all p r low (N12 _ _ _) begins = absurd begins
 
 -- a form that names one above it begins with a property at or above it
@@ -216,7 +206,6 @@ names_above all p (N7 _) h = absurd h
 names_above all p (N8 _ _) h = absurd h
 names_above all p (N9 _ _ _) h = absurd h
 names_above all p (N10 _ _) h = absurd h
-names_above all p (N11 _ _) h = absurd h
 names_above all p (N12 _ _ _) h = absurd h
 
 -- ---- individuals
@@ -239,7 +228,6 @@ module _ (i : IndId) where
   linked_first (N7 _) e = absurd (none-some _ e)
   linked_first (N8 _ _) e = absurd (none-some _ e)
   linked_first (N9 _ _ _) e = absurd (none-some _ e)
-  linked_first (N11 _ _) e = absurd (none-some _ e)
   linked_first (N12 _ _ _) e = absurd (none-some _ e)
 
   pub linked_second : (form : Form) → by_linked_second form ≡ Some (individual_key i) → NamesIndividual form (Individual i)
@@ -253,7 +241,6 @@ module _ (i : IndId) where
   linked_second (N7 _) e = absurd (none-some _ e)
   linked_second (N8 _ _) e = absurd (none-some _ e)
   linked_second (N9 _ _ _) e = absurd (none-some _ e)
-  linked_second (N11 _ _) e = absurd (none-some _ e)
   linked_second (N12 _ _ _) e = absurd (none-some _ e)
 
   link : (form : Form) → NamesIndividual form (Individual i) → (by_linked_first form ≡ Some (individual_key i)) ⊎ (by_linked_second form ≡ Some (individual_key i))
@@ -267,7 +254,6 @@ module _ (i : IndId) where
   link (N7 _) h = absurd h
   link (N8 _ _) h = absurd h
   link (N9 _ _ _) h = absurd h
-  link (N11 _ _) h = absurd h
   link (N12 _ _ _) h = absurd h
 
   pub not_linked : (added : List Form) → ((n : ℕ) → IsUnder by_linked_first added (individual_key i) n → ⊥) → ((n : ℕ) → IsUnder by_linked_second added (individual_key i) n → ⊥) → HasForm (λ form. NamesIndividual form (Individual i)) added → ⊥
@@ -290,7 +276,6 @@ module _ (i : IndId) where
   denied_key all p y (N8 _ _) h = absurd h
   denied_key all p y (N9 _ _ _) h = absurd h
   denied_key all p y (N10 _ _) h = absurd h
-  denied_key all p y (N11 _ _) h = absurd h
 
   -- and one that denies an edge to it is under its key
   pub target_key : (all : List Form) (p : PropId2) (x : Context) (form : Form) → Denies all form (Edge x p (Individual i)) → by_target form ≡ Some (individual_key i)
@@ -305,7 +290,6 @@ module _ (i : IndId) where
   target_key all p x (N8 _ _) h = absurd h
   target_key all p x (N9 _ _ _) h = absurd h
   target_key all p x (N10 _ _) h = absurd h
-  target_key all p x (N11 _ _) h = absurd h
 
 -- an edge that is denied is one between individuals
 pub denied_ends : (all : List Form) (x : Context) (p : PropId2) (y : Context) (form : Form) → Denies all form (Edge x p y) → (a : IndId) × (b : IndId) × (x ≡ Individual a) × (y ≡ Individual b)
@@ -320,8 +304,65 @@ denied_ends all x p y (N7 _) h = absurd h
 denied_ends all x p y (N8 _ _) h = absurd h
 denied_ends all x p y (N9 _ _ _) h = absurd h
 denied_ends all x p y (N10 _ _) h = absurd h
-denied_ends all x p y (N11 _ _) h = absurd h
 
 -- what is such is so in another way
 pub asked_as : (P Q : Form → Type 0) (added : List Form) → ((form : Form) → P form → Q form) → HasForm P added → HasForm Q added
 asked_as P Q added is has = (has.0, has.1, is has.0 has.2)
+
+-- ---- what names or denies, asks
+
+-- a form that makes the individual one with another asks for what is in its context
+pub individual_asks : (all : List Form) (c : Class2) (x : Context) (form : Form) → NamesIndividual form x → Asks all form (In c x)
+individual_asks all c x (N1 _ _) h = absurd h
+individual_asks all c x (N2 _ _ _) h = absurd h
+individual_asks all c x (N3 _ _ _) h = absurd h
+individual_asks all c x (N4 _ _ _) h = absurd h
+individual_asks all c x (N5 _ _) h = absurd h
+individual_asks all c x (N6 _ _ _) h = absurd h
+individual_asks all c x (N7 _) h = absurd h
+individual_asks all c x (N8 _ _) h = absurd h
+individual_asks all c x (N9 _ _ _) h = absurd h
+individual_asks all c x (N10 a b) h = h
+individual_asks all c x (N12 _ _ _) h = absurd h
+
+-- .. and for the edges from it and to it
+pub ends_ask : (all : List Form) (x : Context) (p : PropId2) (y : Context) (form : Form) → NamesIndividual form x ⊎ NamesIndividual form y → Asks all form (Edge x p y)
+ends_ask all x p y (N1 _ _) h = ⊎_elim absurd absurd h
+ends_ask all x p y (N2 _ _ _) h = ⊎_elim absurd absurd h
+ends_ask all x p y (N3 _ _ _) h = ⊎_elim absurd absurd h
+ends_ask all x p y (N4 _ _ _) h = ⊎_elim absurd absurd h
+ends_ask all x p y (N5 _ _) h = ⊎_elim absurd absurd h
+ends_ask all x p y (N6 _ _ _) h = ⊎_elim absurd absurd h
+ends_ask all x p y (N7 _) h = ⊎_elim absurd absurd h
+ends_ask all x p y (N8 _ _) h = ⊎_elim absurd absurd h
+ends_ask all x p y (N9 _ _ _) h = ⊎_elim absurd absurd h
+ends_ask all x p y (N10 a b) h = h
+ends_ask all x p y (N12 _ _ _) h = ⊎_elim absurd absurd h
+
+-- one that denies an edge asks for it
+pub denied_asks : (all : List Form) (x : Context) (p : PropId2) (y : Context) (form : Form) → Denies all form (Edge x p y) → Asks all form (Edge x p y)
+denied_asks all x p y (N1 _ _) h = absurd h
+denied_asks all x p y (N2 _ _ _) h = absurd h
+denied_asks all x p y (N3 _ _ _) h = absurd h
+denied_asks all x p y (N4 _ _ _) h = absurd h
+denied_asks all x p y (N5 _ _) h = absurd h
+denied_asks all x p y (N6 _ _ _) h = absurd h
+denied_asks all x p y (N7 _) h = absurd h
+denied_asks all x p y (N8 _ _) h = absurd h
+denied_asks all x p y (N9 _ _ _) h = absurd h
+denied_asks all x p y (N10 _ _) h = absurd h
+denied_asks all x p y (N12 a r b) h = h
+
+-- one that names a property at or above that of an edge asks for it
+pub above_asks : (all : List Form) (x : Context) (p : PropId2) (y : Context) (form : Form) → NamesAbove all form p → Asks all form (Edge x p y)
+above_asks all x p y (N1 _ _) h = absurd h
+above_asks all x p y (N2 _ _ _) h = absurd h
+above_asks all x p y (N3 _ _ _) h = absurd h
+above_asks all x p y (N4 _ _ _) h = absurd h
+above_asks all x p y (N5 r s) h = h
+above_asks all x p y (N6 r s t) h = h
+above_asks all x p y (N7 _) h = absurd h
+above_asks all x p y (N8 _ _) h = absurd h
+above_asks all x p y (N9 _ _ _) h = absurd h
+above_asks all x p y (N10 _ _) h = absurd h
+above_asks all x p y (N12 _ _ _) h = absurd h

@@ -16,8 +16,9 @@ use Rattle.inference.specs.Derivations.{Derived}
 use Rattle.inference.proofs.Owing.{class_is_not_owed}
 use Rattle.lemmas.proofs.Members.{slice_get-from_Contains}
 use Rattle.normal_forms.specs.Properties.{is_property_form}
+use Rattle.normal_forms.specs.declared.apart.ApartLists.{ApartLists}
 use Rattle.normal_forms.specs.declared.forms.Form.{Form}
-use Rattle.normal_forms.specs.declared.forms.Form.TheVariants.{N1, N2, N3, N4, N5, N6, N7, N8, N9, N10, N11, N12}
+use Rattle.normal_forms.specs.declared.forms.Form.TheVariants.{N1, N2, N3, N4, N5, N6, N7, N8, N9, N10, N12}
 use Rattle.saturate.specs.GoingOn.{HasEntered}
 use Rattle.saturate.specs.Growth.{with_more}
 
@@ -32,10 +33,9 @@ not_loop (N7 r) e x f l = true≢false e
 not_loop (N8 i a) e x f l = l
 not_loop (N9 i r j) e x f l = l
 not_loop (N10 a b) e x f l = l
-not_loop (N11 a b) e x f l = l
 not_loop (N12 a r b) e x f l = l
 
-module _ (k : Problem) (forms : List Form) (roots : List Context) (leave : (form : Form) → Contains forms form → is_property_form form ≡ false) where
+module _ (k : Problem) (forms : List Form) (lists : ApartLists) (roots : List Context) (leave : (form : Form) → Contains forms form → is_property_form form ≡ false) where
   old_form : (form : Form) → Contains (k.forms ++ forms) form → (x : Context) (f : Fact) → IsLoop x form f → Contains k.forms form
   old_form form c x f l = ⊎_elim (λ there. there) (λ new. absurd (not_loop form (leave form new) x f l)) (Contains-append_cases k.forms forms form c)
 
@@ -67,7 +67,6 @@ module _ (k : Problem) (forms : List Form) (roots : List Context) (leave : (form
         at_one (N8 _ _) h a b = absurd a
         at_one (N9 _ _ _) h a b = absurd a
         at_one (N10 _ _) h a b = absurd a
-        at_one (N11 _ _) h a b = absurd a
         at_one (N12 _ _ _) h a b = absurd a
         at_one (N7 r) (N1 _ _) a b = absurd b
         at_one (N7 r) (N2 _ _ _) a b = absurd b
@@ -78,13 +77,12 @@ module _ (k : Problem) (forms : List Form) (roots : List Context) (leave : (form
         at_one (N7 r) (N8 _ _) a b = absurd b
         at_one (N7 r) (N9 _ _ _) a b = absurd b
         at_one (N7 r) (N10 _ _) a b = absurd b
-        at_one (N7 r) (N11 _ _) a b = absurd b
         at_one (N7 r) (N12 _ _ _) a b = absurd b
 
     seen_to : (x : Context) (form : Form) (f : Fact) → IsLoop x form f → Contains d.facts f ⊎ IsOwed k d f → Contains d.facts f ⊎ HasEntry d x
     seen_to x form f l w = ⊎_elim (λ there. inl there) (λ owed. inr (owed_at x form f l owed)) w
 
-    pub entered : HasEntered (with_more k forms roots) (length k.roots) served d
+    pub entered : HasEntered (with_more k forms lists roots) (length k.roots) served d
     entered = record {
       roots = λ x there. record {
         top = from_none None thing x (in_thing (old_root x there));

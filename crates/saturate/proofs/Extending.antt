@@ -1,12 +1,15 @@
--- What holds of more forms and roots.
+-- What holds of more forms, lists and roots.
 use Rattle.std.proofs.Common.{◌≡◌, ℕ, zero, suc, ◌<◌, ◌≤◌, ◌⊎◌, inl, inr, ⊎_elim, List, [], ◌∷◌, ◌++◌, length, take, drop, slice_get, Some, None, Option, Contains, refl, sym, ap, ap₂, ◌∙◌, subst, arith}
 use Rattle.std.specs.List.{AllByRecursion}
 use Rattle.std.proofs.lemmas.List.{take-append-drop}
 use Rattle.std.proofs.lemmas.List.Elements.{Contains-append_left}
 use Rattle.std.proofs.lemmas.Option.{none-some, same_Some}
+use Rattle.axioms.specs.declared.ids.ExprId.{ExprId}
 use Rattle.axioms.specs.declared.ids.IndId.{IndId}
+use Rattle.normal_forms.specs.Apart.{AreContinuedBy, AreListedAt}
+use Rattle.normal_forms.specs.declared.apart.ApartLists.{ApartLists}
 use Rattle.normal_forms.specs.declared.forms.Form.{Form}
-use Rattle.normal_forms.specs.declared.forms.Form.TheVariants.{N1, N2, N3, N4, N5, N6, N7, N8, N9, N10, N11, N12}
+use Rattle.normal_forms.specs.declared.forms.Form.TheVariants.{N1, N2, N3, N4, N5, N6, N7, N8, N9, N10, N12}
 use Rattle.normal_forms.specs.declared.forms.PropId2.{PropId2}
 use Rattle.normal_forms.specs.declared.forms.PropId2.TheVariants.{Property}
 use Rattle.normal_forms.specs.Properties.{IsAtOrBelow, same, step}
@@ -14,15 +17,16 @@ use Rattle.facts.specs.declared.contexts.Context.{Context}
 use Rattle.facts.specs.declared.contexts.Context.TheVariants.{Individual}
 use Rattle.facts.specs.declared.contexts.Fact.{Fact}
 use Rattle.facts.specs.declared.contexts.Fact.TheVariants.{In, Edge}
-use Rattle.facts.specs.Closure.{Problem, IsContextBy, FromOne, FromTwo, Concludes, AreSame, HandsOn, Links, IsLoop, Gives, thing, in_thing, in_itself, by_form, unsatisfiable, loop, handed_on, different}
+use Rattle.facts.specs.Closure.{Problem, IsContextBy, FromOne, FromTwo, Concludes, AreSame, HandsOn, Links, IsLoop, Gives, nothing, thing, in_thing, in_itself, by_form, unsatisfiable, loop, handed_on, different, apart}
 use Rattle.facts.specs.Births.{Reason}
 use Rattle.facts.proofs.Premises.{no_three}
-use Rattle.saturate.specs.Requests.{Asks, IsAskedAnew, IsNew, IsOneOf}
+use Rattle.saturate.specs.Requests.{Asks, IsAskedAnew, IsNew, IsOneOf, NewFormAsks}
 use Rattle.inference.specs.Derivations.{Derived, IsDerived, Grows, Keeps}
 use Rattle.saturate.specs.Growth.{with_more, KeepsServed}
 use Rattle.saturate.specs.GoingOn.{IsBegun}
 use Rattle.inference.specs.Completeness.{AllDrawn, DrawnUpToRedundancy, IsCompleteUpToRedundancy, IsEntry, IsOwed, IsServed, AreRedundant, EndsAbove, GoesOn}
-use Rattle.saturate.proofs.EqualForms.{is_there}
+use Rattle.saturate.proofs.EqualForms.{is_listed, is_there}
+use Rattle.saturate.proofs.Joining.{apart_is_there, first_in}
 use Rattle.inference.proofs.Lists.{Contains-from_slice_get, slice_get-from_Contains}
 use Rattle.inference.proofs.Growth.{there_still}
 use Rattle.inference.proofs.Redundancy.{redundant_still}
@@ -55,6 +59,23 @@ new_or_there forms added form there = ⊎_elim
     (λ not_before. inl (there, not_before))
     (is_there forms form)
 
+-- ---- lists of what is apart
+
+individuals_more : (old new : ApartLists) → AreContinuedBy old new → (l : ℕ) (a b : IndId) → AreListedAt old.individuals l a b → AreListedAt new.individuals l a b
+individuals_more old new (more, is) l a b (list, at, ordered) =
+    (list, subst (λ (all : List (List IndId)). slice_get all l ≡ Some list) (sym (ap (λ (ls : ApartLists). ls.individuals) is)) (slice_get_more old.individuals more.individuals l list at), ordered)
+
+classes_more : (old new : ApartLists) → AreContinuedBy old new → (l : ℕ) (a b : ExprId) → AreListedAt old.classes l a b → AreListedAt new.classes l a b
+classes_more old new (more, is) l a b (list, at, ordered) =
+    (list, subst (λ (all : List (List ExprId)). slice_get all l ≡ Some list) (sym (ap (λ (ls : ApartLists). ls.classes) is)) (slice_get_more old.classes more.classes l list at), ordered)
+
+-- a list is new, or it was there at some place
+list_new_or_there : (before now : List (List ExprId)) (list : List ExprId) → Contains now list → IsNew before now list ⊎ ((m : ℕ) × (slice_get before m ≡ Some list))
+list_new_or_there before now list there = ⊎_elim
+    (λ was. inr (slice_get-from_Contains before list was))
+    (λ was_not. inl (there, was_not))
+    (is_listed before list)
+
 -- ---- properties
 
 below_more : (forms added : List Form) (p q : PropId2) → IsAtOrBelow forms p q → IsAtOrBelow (forms ++ added) p q
@@ -62,7 +83,7 @@ below_more forms added p _ same = same
 below_more forms added p _ (step s t h c) = step s t (below_more forms added p (Property s) h) (Contains-append_left forms added (N5 s t) c)
 
 -- a path that is new has a form that is new, whose lower property lies above its start
-below_cases : (forms added : List Form) (p q : PropId2) → IsAtOrBelow (forms ++ added) p q → IsAtOrBelow forms p q ⊎ ((x y : Context) → IsAskedAnew forms (forms ++ added) (Edge x p y))
+below_cases : (forms added : List Form) (p q : PropId2) → IsAtOrBelow (forms ++ added) p q → IsAtOrBelow forms p q ⊎ ((x y : Context) → NewFormAsks forms (forms ++ added) (Edge x p y))
 below_cases forms added p _ same = inl same
 below_cases forms added p _ (step s t h c) = ⊎_elim
     (λ low. ⊎_elim
@@ -90,13 +111,12 @@ linked_form (N6 _ _ _) i j l = absurd l
 linked_form (N7 _) i j l = absurd l
 linked_form (N8 _ _) i j l = absurd l
 linked_form (N9 _ _ _) i j l = absurd l
-linked_form (N11 _ _) i j l = absurd l
 linked_form (N12 _ _ _) i j l = absurd l
 
 -- ---- what facts give
 
-module _ (k : Problem) (forms : List Form) (roots : List Context) where
-  more_one : (form : Form) (g f : Fact) → FromOne k form g f → FromOne (with_more k forms roots) form g f
+module _ (k : Problem) (forms : List Form) (lists : ApartLists) (roots : List Context) (continued : AreContinuedBy k.apart lists) where
+  more_one : (form : Form) (g f : Fact) → FromOne k form g f → FromOne (with_more k forms lists roots) form g f
   more_one (N1 a b) (In c x) f w = w
   more_one (N1 a b) (Edge _ _ _) f w = absurd w
   more_one (N3 a r b) (In c x) f w = w
@@ -111,9 +131,8 @@ module _ (k : Problem) (forms : List Form) (roots : List Context) where
   more_one (N8 _ _) g f w = absurd w
   more_one (N9 _ _ _) g f w = absurd w
   more_one (N10 _ _) g f w = absurd w
-  more_one (N11 _ _) g f w = absurd w
 
-  more_two : (form : Form) (g h f : Fact) → FromTwo k form g h f → FromTwo (with_more k forms roots) form g h f
+  more_two : (form : Form) (g h f : Fact) → FromTwo k form g h f → FromTwo (with_more k forms lists roots) form g h f
   more_two (N2 a b c) (In d x) (In e y) f w = w
   more_two (N2 a b c) (In d x) (Edge _ _ _) f w = absurd w
   more_two (N2 a b c) (Edge _ _ _) h f w = absurd w
@@ -130,31 +149,31 @@ module _ (k : Problem) (forms : List Form) (roots : List Context) where
   more_two (N8 _ _) g h f w = absurd w
   more_two (N9 _ _ _) g h f w = absurd w
   more_two (N10 _ _) g h f w = absurd w
-  more_two (N11 _ _) g h f w = absurd w
   more_two (N12 _ _ _) g h f w = absurd w
 
-  concludes_more : (form : Form) (older : List Fact) (f : Fact) → Concludes k form older f → Concludes (with_more k forms roots) form older f
+  concludes_more : (form : Form) (older : List Fact) (f : Fact) → Concludes k form older f → Concludes (with_more k forms lists roots) form older f
   concludes_more form [] f w = w
   concludes_more form (g ∷ []) f w = more_one form g f w
   concludes_more form (g ∷ h ∷ []) f w = more_two form g h f w
   concludes_more form (g ∷ h ∷ i ∷ rest) f w = absurd w
 
-  context_more : (older : List Fact) (x : Context) → IsContextBy k older x → IsContextBy (with_more k forms roots) older x
+  context_more : (older : List Fact) (x : Context) → IsContextBy k older x → IsContextBy (with_more k forms lists roots) older x
   context_more [] x c = Contains-append_left k.roots roots x c
   context_more (g ∷ []) x c = c
   context_more (g ∷ h ∷ rest) x c = absurd c
 
-  gives_more : {c : ℕ} {o : Option ℕ} {older : List Fact} {f : Fact} → Gives k c o older f → Gives (with_more k forms roots) c o older f
+  gives_more : {c : ℕ} {o : Option ℕ} {older : List Fact} {f : Fact} → Gives k c o older f → Gives (with_more k forms lists roots) c o older f
   gives_more {older = older} (in_thing {x = x} c) = in_thing (context_more older x c)
   gives_more {older = older} (in_itself {e = e} c) = in_itself (context_more older _ c)
   gives_more {older = older} {f = f} (by_form n form at w) = by_form n form (slice_get_more k.forms forms n form at) (concludes_more form older f w)
   gives_more (unsatisfiable b) = unsatisfiable b
   gives_more {older = older} (loop x n form at l c) = loop x n form (slice_get_more k.forms forms n form at) l (context_more older x c)
   gives_more (handed_on n form at on) = handed_on n form (slice_get_more k.forms forms n form at) on
-  gives_more (different n a b at alike) = different n a b (slice_get_more k.forms forms n (N11 a b) at) (same_more k.forms forms a b alike)
+  gives_more (different l a b at alike) = different l a b (individuals_more k.apart lists continued l a b at) (same_more k.forms forms a b alike)
+  gives_more (apart l a b x (c, d, a_is, b_is, at)) = apart l a b x (c, d, a_is, b_is, classes_more k.apart lists continued l c d at)
 
   -- facts keep their reasons
-  pub derived_more : {d : Derived} → IsDerived k d → IsDerived (with_more k forms roots) d
+  pub derived_more : {d : Derived} → IsDerived k d → IsDerived (with_more k forms lists roots) d
   derived_more s = record {
     distinct = s.distinct;
     long = s.long;
@@ -164,9 +183,9 @@ module _ (k : Problem) (forms : List Form) (roots : List Context) where
   -- ---- what facts that no new form asks for give was given before
 
   abbrev Unasked : Fact → Type 0
-  Unasked f = ¬ IsAskedAnew k.forms (k.forms ++ forms) f
+  Unasked f = ¬ IsAskedAnew k (with_more k forms lists roots) f
 
-  asks_one : (form : Form) (g f : Fact) → FromOne (with_more k forms roots) form g f → Asks (k.forms ++ forms) form g
+  asks_one : (form : Form) (g f : Fact) → FromOne (with_more k forms lists roots) form g f → Asks (k.forms ++ forms) form g
   asks_one (N1 a b) (In c x) f w = w.0
   asks_one (N1 a b) (Edge _ _ _) f w = absurd w
   asks_one (N3 a r b) (In c x) f w = w.0
@@ -181,14 +200,13 @@ module _ (k : Problem) (forms : List Form) (roots : List Context) where
   asks_one (N8 _ _) g f w = absurd w
   asks_one (N9 _ _ _) g f w = absurd w
   asks_one (N10 _ _) g f w = absurd w
-  asks_one (N11 _ _) g f w = absurd w
 
   asks_handed_on : (form : Form) {g f : Fact} → HandsOn form g f → Asks (k.forms ++ forms) form g
   asks_handed_on form (HandsOn.class {i = i} {j = j} {c = c} l) = let w = linked_form form i j l in subst (λ (y : Form). Asks (k.forms ++ forms) y (In c (Individual i))) (sym w.2) w.3
   asks_handed_on form (HandsOn.source {i = i} {j = j} {r = r} {y = y} l) = let w = linked_form form i j l in subst (λ (z : Form). Asks (k.forms ++ forms) z (Edge (Individual i) r y)) (sym w.2) (inl w.3)
   asks_handed_on form (HandsOn.target {i = i} {j = j} {r = r} {x = x} l) = let w = linked_form form i j l in subst (λ (z : Form). Asks (k.forms ++ forms) z (Edge x r (Individual i))) (sym w.2) (inr w.3)
 
-  asks_two : (form : Form) (g h f : Fact) → FromTwo (with_more k forms roots) form g h f → Asks (k.forms ++ forms) form g ⊎ Asks (k.forms ++ forms) form h
+  asks_two : (form : Form) (g h f : Fact) → FromTwo (with_more k forms lists roots) form g h f → Asks (k.forms ++ forms) form g ⊎ Asks (k.forms ++ forms) form h
   asks_two (N2 a b c) (In d x) (In e y) f w = inl w.0
   asks_two (N2 a b c) (In d x) (Edge _ _ _) f w = absurd w
   asks_two (N2 a b c) (Edge _ _ _) h f w = absurd w
@@ -205,13 +223,12 @@ module _ (k : Problem) (forms : List Form) (roots : List Context) where
   asks_two (N8 _ _) g h f w = absurd w
   asks_two (N9 _ _ _) g h f w = absurd w
   asks_two (N10 _ _) g h f w = absurd w
-  asks_two (N11 _ _) g h f w = absurd w
   asks_two (N12 _ _ _) g h f w = absurd w
 
   was_below : (x : Context) (p : PropId2) (y : Context) (q : PropId2) → Unasked (Edge x p y) → IsAtOrBelow (k.forms ++ forms) p q → IsAtOrBelow k.forms p q
-  was_below x p y q unasked low = ⊎_elim (λ old. old) (λ asked. absurd (unasked (asked x y))) (below_cases k.forms forms p q low)
+  was_below x p y q unasked low = ⊎_elim (λ old. old) (λ asked. absurd (unasked (inl (asked x y)))) (below_cases k.forms forms p q low)
 
-  one_before : (form : Form) (g f : Fact) → Unasked g → FromOne (with_more k forms roots) form g f → FromOne k form g f
+  one_before : (form : Form) (g f : Fact) → Unasked g → FromOne (with_more k forms lists roots) form g f → FromOne k form g f
   one_before (N1 a b) (In c x) f u w = w
   one_before (N1 a b) (Edge _ _ _) f u w = absurd w
   one_before (N3 a r b) (In c x) f u w = w
@@ -226,9 +243,8 @@ module _ (k : Problem) (forms : List Form) (roots : List Context) where
   one_before (N8 _ _) g f u w = absurd w
   one_before (N9 _ _ _) g f u w = absurd w
   one_before (N10 _ _) g f u w = absurd w
-  one_before (N11 _ _) g f u w = absurd w
 
-  two_before : (form : Form) (g h f : Fact) → Unasked g → Unasked h → FromTwo (with_more k forms roots) form g h f → FromTwo k form g h f
+  two_before : (form : Form) (g h f : Fact) → Unasked g → Unasked h → FromTwo (with_more k forms lists roots) form g h f → FromTwo k form g h f
   two_before (N2 a b c) (In d x) (In e y) f u v w = w
   two_before (N2 a b c) (In d x) (Edge _ _ _) f u v w = absurd w
   two_before (N2 a b c) (Edge _ _ _) h f u v w = absurd w
@@ -245,7 +261,6 @@ module _ (k : Problem) (forms : List Form) (roots : List Context) where
   two_before (N8 _ _) g h f u v w = absurd w
   two_before (N9 _ _ _) g h f u v w = absurd w
   two_before (N10 _ _) g h f u v w = absurd w
-  two_before (N11 _ _) g h f u v w = absurd w
   two_before (N12 _ _ _) g h f u v w = absurd w
 
   -- ---- what was redundant is redundant still
@@ -261,7 +276,6 @@ module _ (k : Problem) (forms : List Form) (roots : List Context) where
   goes_on_more (N8 _ _) on = on
   goes_on_more (N9 _ _ _) on = on
   goes_on_more (N10 _ _) on = on
-  goes_on_more (N11 _ _) on = on
   goes_on_more (N12 _ _ _) on = on
 
   ends_more : (p : PropId2) (form : Form) → EndsAbove k.forms p form → EndsAbove (k.forms ++ forms) p form
@@ -275,12 +289,11 @@ module _ (k : Problem) (forms : List Form) (roots : List Context) where
   ends_more p (N8 _ _) low = low
   ends_more p (N9 _ _ _) low = low
   ends_more p (N10 _ _) low = low
-  ends_more p (N11 _ _) low = low
   ends_more p (N12 _ _ _) low = low
 
   -- what is redundant by a form is redundant by each that is equal to it
   pub redundant_more : (d : Derived) (g h f : Fact) (m n : ℕ) (form : Form) → slice_get k.forms m ≡ Some form → slice_get (k.forms ++ forms) n ≡ Some form
-      → AreRedundant k d (g ∷ h ∷ []) (Some m) f → AreRedundant (with_more k forms roots) d (g ∷ h ∷ []) (Some n) f
+      → AreRedundant k d (g ∷ h ∷ []) (Some m) f → AreRedundant (with_more k forms lists roots) d (g ∷ h ∷ []) (Some n) f
   redundant_more d g h f m n form before at w = (
     w.0,
     at ∙ sym before ∙ w.1,
@@ -301,40 +314,40 @@ module _ (k : Problem) (forms : List Form) (roots : List Context) where
   )
 
   -- what is owed is owed still
-  pub owed_more : (d : Derived) (f : Fact) → IsOwed k d f → IsOwed (with_more k forms roots) d f
+  pub owed_more : (d : Derived) (f : Fact) → IsOwed k d f → IsOwed (with_more k forms lists roots) d f
   owed_more d f w = record { context = w.context; form = w.form; there = Contains-append_left k.forms forms w.form w.there; is_loop = w.is_loop; entry = w.entry }
 
   -- ---- so what served facts give is there still
 
-  module _ {most : ℕ} {old new : Derived} (served : List ℕ) (s : IsBegun (with_more k forms roots) most served old new)
-      (derived : IsDerived k old) (within : (n : ℕ) → Contains served n → n < length old.facts) (complete : IsCompleteUpToRedundancy k old served) (now : List ℕ) (keeps : KeepsServed k.forms (k.forms ++ forms) old.facts served now) where
+  module _ {most : ℕ} {old new : Derived} (served : List ℕ) (s : IsBegun (with_more k forms lists roots) most served old new)
+      (derived : IsDerived k old) (within : (n : ℕ) → Contains served n → n < length old.facts) (complete : IsCompleteUpToRedundancy k old served) (now : List ℕ) (keeps : KeepsServed k (with_more k forms lists roots) old.facts served now) where
     was_served : (f : Fact) → IsServed new.facts now f → (n : ℕ) × Contains served n × (slice_get old.facts n ≡ Some f) × Unasked f
     was_served f w =
         let before = (keeps w.0).0 w.1 in
         let at = was_there s.grows w.0 f (within w.0 before.0) w.2 in
         (w.0, before.0, at, λ asked. before.1 (f, at, asked))
 
-    alone : (g f : Fact) {c : ℕ} {o : Option ℕ} → IsServed old.facts served g → Gives k c o (g ∷ []) f → Contains new.facts f ⊎ IsOwed (with_more k forms roots) new f
+    alone : (g f : Fact) {c : ℕ} {o : Option ℕ} → IsServed old.facts served g → Gives k c o (g ∷ []) f → Contains new.facts f ⊎ IsOwed (with_more k forms lists roots) new f
     alone g f {c} {o} w gives = ⊎_elim (λ there. inl (there_still s.grows f there)) (λ owed. inr (owed_still s.grows f (owed_more old f owed))) (complete.given (g ∷ []) (w, tt) c o f gives)
 
     -- a context that a served fact makes one has owl:Thing in it
     top_there : (g : Fact) (x : Context) → IsServed old.facts served g → IsContextBy k (g ∷ []) x → Contains old.facts (In thing x)
     top_there g x w is = ⊎_elim (λ there. there) (λ owed. absurd (class_is_not_owed k old thing x owed)) (complete.given (g ∷ []) (w, tt) 1 None (In thing x) (in_thing is))
 
-    one : (g f : Fact) {c : ℕ} {o : Option ℕ} → IsServed new.facts now g → Gives (with_more k forms roots) c o (g ∷ []) f → Contains new.facts f ⊎ IsOwed (with_more k forms roots) new f
+    one : (g f : Fact) {c : ℕ} {o : Option ℕ} → IsServed new.facts now g → Gives (with_more k forms lists roots) c o (g ∷ []) f → Contains new.facts f ⊎ IsOwed (with_more k forms lists roots) new f
     one g f w (in_thing c) = let v = was_served g w in alone g f (v.0, v.1, v.2) (in_thing c)
     one g f w (in_itself c) = let v = was_served g w in alone g f (v.0, v.1, v.2) (in_itself c)
     one g f w (by_form n form at gives) =
         let v = was_served g w in
         ⊎_elim
-        (λ new. absurd (v.3 (form, new, asks_one form g f gives)))
+        (λ new. absurd (v.3 (inl (form, new, asks_one form g f gives))))
         (λ before. alone g f (v.0, v.1, v.2) (by_form before.0 form before.1 (one_before form g f v.3 gives)))
         (new_or_there k.forms forms form (Contains-from_slice_get (k.forms ++ forms) n form at))
     one g f w (unsatisfiable b) = absurd b
     one g f w (handed_on n form at on) =
         let v = was_served g w in
         ⊎_elim
-        (λ new. absurd (v.3 (form, new, asks_handed_on form on)))
+        (λ new. absurd (v.3 (inl (form, new, asks_handed_on form on))))
         (λ before. alone g f (v.0, v.1, v.2) (handed_on before.0 form before.1 on))
         (new_or_there k.forms forms form (Contains-from_slice_get (k.forms ++ forms) n form at))
     one g f w (loop x n form at l c) =
@@ -346,20 +359,20 @@ module _ (k : Problem) (forms : List Form) (roots : List Context) where
         (s.loops v.0 v.1 g x v.2 c (top_there g x (v.0, v.1, v.2) c) form there f l)
 
     -- what two facts gave by a form is there still, or redundant still, also by an equal form
-    by_earlier : (g h f : Fact) (m n : ℕ) (form : Form) → IsServed old.facts served g → IsServed old.facts served h → slice_get k.forms m ≡ Some form → slice_get (k.forms ++ forms) n ≡ Some form → FromTwo k form g h f → Contains new.facts f ⊎ AreRedundant (with_more k forms roots) new (g ∷ h ∷ []) (Some n) f
+    by_earlier : (g h f : Fact) (m n : ℕ) (form : Form) → IsServed old.facts served g → IsServed old.facts served h → slice_get k.forms m ≡ Some form → slice_get (k.forms ++ forms) n ≡ Some form → FromTwo k form g h f → Contains new.facts f ⊎ AreRedundant (with_more k forms lists roots) new (g ∷ h ∷ []) (Some n) f
     by_earlier g h f m n form w v before at gives = ⊎_elim
         (λ there. inl (there_still s.grows f there))
         (λ redundant. inr (redundant_still s.grows (g ∷ h ∷ []) (Some n) f (redundant_more old g h f m n form before at redundant)))
         (complete.given (g ∷ h ∷ []) (w, (v, tt)) _ (Some m) f (by_form m form before gives))
 
-    two : (g h f : Fact) {c : ℕ} {o : Option ℕ} → IsServed new.facts now g → IsServed new.facts now h → Gives (with_more k forms roots) c o (g ∷ h ∷ []) f → Contains new.facts f ⊎ AreRedundant (with_more k forms roots) new (g ∷ h ∷ []) o f
+    two : (g h f : Fact) {c : ℕ} {o : Option ℕ} → IsServed new.facts now g → IsServed new.facts now h → Gives (with_more k forms lists roots) c o (g ∷ h ∷ []) f → Contains new.facts f ⊎ AreRedundant (with_more k forms lists roots) new (g ∷ h ∷ []) o f
     two g h _ w v (in_thing c) = absurd c
     two g h _ w v (in_itself c) = absurd c
     two g h f w v (by_form n form at gives) =
         let a = was_served g w in
         let b = was_served h v in
         ⊎_elim
-        (λ new. ⊎_elim (λ asks. absurd (a.3 (form, new, asks))) (λ asks. absurd (b.3 (form, new, asks))) (asks_two form g h f gives))
+        (λ new. ⊎_elim (λ asks. absurd (a.3 (inl (form, new, asks)))) (λ asks. absurd (b.3 (inl (form, new, asks)))) (asks_two form g h f gives))
         (λ before. by_earlier g h f before.0 n form (a.0, a.1, a.2) (b.0, b.1, b.2) before.1 at (two_before form g h f a.3 b.3 gives))
         (new_or_there k.forms forms form (Contains-from_slice_get (k.forms ++ forms) n form at))
     two g h f w v (unsatisfiable back) =
@@ -370,8 +383,16 @@ module _ (k : Problem) (forms : List Form) (roots : List Context) where
         (λ redundant. absurd redundant)
         (complete.given (g ∷ h ∷ []) ((a.0, a.1, a.2), ((b.0, b.1, b.2), tt)) _ None f (unsatisfiable back))
     two g h f w v (loop x n form at l c) = absurd c
+    two _ _ _ w v (apart l a b x (c, d, a_is, b_is, (list, at, ordered))) =
+        let first = was_served (In a x) w in
+        let second = was_served (In b x) v in
+        ⊎_elim
+        (λ new. absurd (first.3 (inr (list, new, (c, a_is, first_in list c d ordered)))))
+        (λ before. inl (there_still s.grows (In nothing x) (apart_is_there derived a b x (Some before.0) (complete.given (In a x ∷ In b x ∷ []) ((first.0, first.1, first.2), ((second.0, second.1, second.2), tt)) 14 (Some before.0) (In nothing x)
+        (apart before.0 a b x (c, d, a_is, b_is, (list, before.1, ordered)))))))
+        (list_new_or_there k.apart.classes lists.classes list (Contains-from_slice_get lists.classes l list at))
 
-    given_still : (older : List Fact) → AllByRecursion (IsServed new.facts now) older → DrawnUpToRedundancy (with_more k forms roots) older new
+    given_still : (older : List Fact) → AllByRecursion (IsServed new.facts now) older → DrawnUpToRedundancy (with_more k forms lists roots) older new
     given_still [] all c o f gives = s.given c o f gives
     given_still (g ∷ []) all c o f gives = one g f all.0 gives
     given_still (g ∷ h ∷ []) all c o f gives = two g h f all.0 all.1.0 gives
@@ -389,7 +410,6 @@ module _ (k : Problem) (forms : List Form) (roots : List Context) where
     asks_loop (N8 _ _) x f l = absurd l
     asks_loop (N9 _ _ _) x f l = absurd l
     asks_loop (N10 _ _) x f l = absurd l
-    asks_loop (N11 _ _) x f l = absurd l
     asks_loop (N12 _ _ _) x f l = absurd l
 
     loops_drawn : (x : Context) (n : ℕ) → Contains now n → IsEntry new x n → AllDrawn (IsLoop x) (k.forms ++ forms) new.facts
@@ -397,34 +417,36 @@ module _ (k : Problem) (forms : List Form) (roots : List Context) where
         let before = (keeps n).0 c in
         let was = entry_before (derived_more derived) s.grows x n (within n before.0) e in
         ⊎_elim
-        (λ new. absurd (before.1 (In thing x, was.there, (form, new, asks_loop form x f l))))
+        (λ new. absurd (before.1 (In thing x, was.there, inl (form, new, asks_loop form x f l))))
         (λ old. there_still s.grows f (complete.loops x n before.0 was form (Contains-from_slice_get k.forms old.0 form old.1) f l))
         (new_or_there k.forms forms form there)
 
-    pub complete_still : IsCompleteUpToRedundancy (with_more k forms roots) new now
+    pub complete_still : IsCompleteUpToRedundancy (with_more k forms lists roots) new now
     complete_still = record { given = given_still; loops = loops_drawn }
 
 -- ---- the state of what has grown
 
-abbrev problem_of : List Form → List Context → Problem
-problem_of forms roots = record { forms = forms; roots = roots }
+abbrev problem_of : ApartLists → List Form → List Context → Problem
+problem_of lists forms roots = record { forms = forms; apart = lists; roots = roots }
 
 -- a list of forms is those that it begins with, and then those that are added
-pub parted : (k j : Problem) (all : List Form) (roots : List Context) (from : ℕ) → take from all ≡ k.forms → j.forms ≡ all → j.roots ≡ k.roots ++ roots → j ≡ with_more k (drop from all) roots
-parted k j all roots from front forms roots_are = ap₂ problem_of (forms ∙ sym (take-append-drop from all) ∙ ap (λ (fs : List Form). fs ++ drop from all) front) roots_are
+pub parted : (k j : Problem) (all : List Form) (lists : ApartLists) (roots : List Context) (from : ℕ) → take from all ≡ k.forms → j.forms ≡ all → j.apart ≡ lists → j.roots ≡ k.roots ++ roots → j ≡ with_more k (drop from all) lists roots
+parted k j all lists roots from front forms lists_are roots_are =
+    ap₂ (problem_of j.apart) (forms ∙ sym (take-append-drop from all) ∙ ap (λ (fs : List Form). fs ++ drop from all) front) roots_are
+    ∙ ap (λ (ls : ApartLists). with_more k (drop from all) ls roots) lists_are
 
-module _ (k : Problem) (forms : List Form) (roots : List Context) {j : Problem} (same : j ≡ with_more k forms roots) where
+module _ (k : Problem) (forms : List Form) (lists : ApartLists) (roots : List Context) (continued : AreContinuedBy k.apart lists) {j : Problem} (same : j ≡ with_more k forms lists roots) where
   pub derived_then : {d : Derived} → IsDerived k d → IsDerived j d
-  derived_then {d} s = subst (λ (i : Problem). IsDerived i d) (sym same) (derived_more k forms roots s)
+  derived_then {d} s = subst (λ (i : Problem). IsDerived i d) (sym same) (derived_more k forms lists roots continued s)
 
-  pub extended : {most : ℕ} {old new : Derived} {q r : Queued} → IsUnderWay k old q → IsBegun j most q.served old new → r.queued ≤ length new.facts → KeepsServed k.forms j.forms old.facts q.served r.served → IsUnderWay j new r
+  pub extended : {most : ℕ} {old new : Derived} {q r : Queued} → IsUnderWay k old q → IsBegun j most q.served old new → r.queued ≤ length new.facts → KeepsServed k j old.facts q.served r.served → IsUnderWay j new r
   extended {most} {old} {new} {q} {r} s begun queued keeps = record {
     derived = begun.grows.derived;
     queued = queued;
     within = λ n c. omega (arith, s.within n ((keeps n).0 c).0, begun.grows.longer);
     complete = subst (λ (i : Problem). IsCompleteUpToRedundancy i new r.served) (sym same)
-        (complete_still k forms roots q.served (subst (λ (i : Problem). IsBegun i most q.served old new) same begun) s.derived s.within s.complete r.served
-        (subst (λ (i : Problem). KeepsServed k.forms i.forms old.facts q.served r.served) same keeps));
+        (complete_still k forms lists roots continued q.served (subst (λ (i : Problem). IsBegun i most q.served old new) same begun) s.derived s.within s.complete r.served
+        (subst (λ (i : Problem). KeepsServed k i old.facts q.served r.served) same keeps));
   }
 
 pub listed_again : {k : Problem} {d : Derived} {index : Index} (r : Queued) → ListsFacts k d r.served r.served index → ListsServed k d r index

@@ -5,10 +5,11 @@ use Rattle.std.proofs.lemmas.Bool.Decides.{eqb_tells}
 use Rattle.std.proofs.lemmas.List.{append-nil, get_or_append_left}
 use Rattle.std.proofs.lemmas.List.Elements.{filter_more}
 use Rattle.std.proofs.lemmas.Option.{slice_get-get_or}
-use Rattle.normal_forms.specs.declared.forms.Form.{Form}
+use Rattle.axioms.specs.declared.ids.ExprId.{ExprId}
 use Rattle.facts.specs.declared.contexts.Fact.{Fact}
+use Rattle.facts.specs.Closure.{Problem}
 use Rattle.normal_forms.proofs.Filters.{kept as is_kept_of, from_kept, passes}
-use Rattle.saturate.specs.Requests.{IsAskedAnew}
+use Rattle.saturate.specs.Requests.{IsAsked, IsAskedAnew, IsAskedByForm, IsNew, NewFormAsks}
 use Rattle.saturate.specs.Flags.{IsFlagged, is_flagged, is_kept, kept}
 use Rattle.saturate.specs.Growth.{KeepsServed}
 use Rattle.inference.proofs.Lists.{one_value}
@@ -32,6 +33,14 @@ flag_more P facts flags flag i f long at before asked unasked n low = ⊎_elim
     record { yes = λ e. b.yes (sym same ∙ e); no = λ e. b.no (sym same ∙ e) })
     (eqb_tells n i)
 
+-- the forms and lists that are added ask for the same facts as those that are new
+pub asked_as_new : (before now added : Problem) → ((f : Fact) → IsAskedByForm now.forms added.forms f ↔ NewFormAsks before.forms now.forms f) → ((cs : List ExprId) → Contains added.apart.classes cs ↔ IsNew before.apart.classes now.apart.classes cs)
+    → (f : Fact) → IsAsked now.forms added f ↔ IsAskedAnew before now f
+asked_as_new before now added forms lists f = (
+  λ asked. ⊎_elim (λ w. inl ((forms f).0 w)) (λ w. inr (w.0, (lists w.0).0 w.1, w.2)) asked,
+  λ asked. ⊎_elim (λ w. inl ((forms f).1 w)) (λ w. inr (w.0, (lists w.0).1 w.1, w.2)) asked,
+)
+
 -- flags of facts of one kind are flags of those of another, where a fact is of one exactly where it is of the other
 pub flagged_too : (P Q : Fact → Type 0) (facts : List Fact) (flags : List Bool) (n : ℕ) → ((f : Fact) → P f ↔ Q f) → IsFlagged P facts flags n → IsFlagged Q facts flags n
 flagged_too P Q facts flags n same flagged = record {
@@ -48,14 +57,14 @@ by_flag true = inl refl
 by_flag false = inr refl
 
 -- those that are not flagged are exactly those that no new form asks for
-pub keeps_served : (before now : List Form) (facts : List Fact) (flags : List Bool) (served : List ℕ) → ((n : ℕ) → Contains served n → IsFlagged (IsAskedAnew before now) facts flags n) → KeepsServed before now facts served (kept flags served)
+pub keeps_served : (before now : Problem) (facts : List Fact) (flags : List Bool) (served : List ℕ) → ((n : ℕ) → Contains served n → IsFlagged (IsAskedAnew before now) facts flags n) → KeepsServed before now facts served (kept flags served)
 keeps_served before now facts flags served flagged n = (
   λ there. let was = from_kept (is_kept flags) served n there in (was, (flagged n was).no (not_flagged (is_flagged flags n) (passes (is_kept flags) served n there))),
   λ w. is_kept_of (is_kept flags) served n w.0 (⊎_elim (λ yes_flag. absurd (w.1 ((flagged n w.0).yes yes_flag))) (λ no_flag. ap not no_flag) (by_flag (is_flagged flags n))),
 )
 
 -- so it is where the flags are read again
-pub keeps_served_then : (before now : List Form) (facts : List Fact) (flags read : List Bool) (served still : List ℕ) → read ≡ flags → still ≡ kept read served
+pub keeps_served_then : (before now : Problem) (facts : List Fact) (flags read : List Bool) (served still : List ℕ) → read ≡ flags → still ≡ kept read served
     → ((n : ℕ) → Contains served n → IsFlagged (IsAskedAnew before now) facts flags n) → KeepsServed before now facts served still
 keeps_served_then before now facts flags read served still same is flagged =
     subst (λ (ns : List ℕ). KeepsServed before now facts served ns) (sym (is ∙ ap (λ (fs : List Bool). kept fs served) same)) (keeps_served before now facts flags served flagged)

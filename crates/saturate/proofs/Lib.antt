@@ -12,5 +12,6 @@ pub mod Flagging
 pub mod Runs
 pub mod EqualForms
 pub mod NewForms
+pub mod NewLists
 pub mod Staying
 pub mod Removing

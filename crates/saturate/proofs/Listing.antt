@@ -3,11 +3,11 @@ use Rattle.std.proofs.Common.{◌≡◌, ℕ, ◌<◌, ◌⊎◌, inl, inr, ⊎_
 use Rattle.std.proofs.lemmas.List.Elements.{Contains-push, Contains-push_cases}
 use Rattle.std.proofs.lemmas.Option.{slice_get_within}
 use Rattle.normal_forms.specs.declared.forms.Form.{Form}
-use Rattle.normal_forms.specs.declared.forms.Form.TheVariants.{N1, N2, N3, N4, N5, N6, N7, N8, N9, N10, N11, N12}
+use Rattle.normal_forms.specs.declared.forms.Form.TheVariants.{N1, N2, N3, N4, N5, N6, N7, N8, N9, N10, N12}
 use Rattle.facts.specs.declared.contexts.Context.{Context}
 use Rattle.facts.specs.declared.contexts.Fact.{Fact}
 use Rattle.facts.specs.declared.contexts.Fact.TheVariants.{In, Edge}
-use Rattle.facts.specs.Closure.{Problem, FromTwo, Carries, Gives, in_thing, in_itself, by_form, unsatisfiable, loop}
+use Rattle.facts.specs.Closure.{Problem, FromTwo, Carries, Gives, in_thing, in_itself, by_form, unsatisfiable, loop, apart}
 use Rattle.indexes.specs.declared.by_context.ByContext.{ByContext}
 use Rattle.indexes.specs.declared.index.Index.{Index}
 use Rattle.indexes.specs.Contexts.{at_context, IsLast, IsEmptyTable, IsEmptyIndex}
@@ -212,7 +212,6 @@ from_two k (N7 _) f g h w = absurd w
 from_two k (N8 _ _) f g h w = absurd w
 from_two k (N9 _ _ _) f g h w = absurd w
 from_two k (N10 _ _) f g h w = absurd w
-from_two k (N11 _ _) f g h w = absurd w
 from_two k (N12 _ _ _) f g h w = absurd w
 
 carried : (f g h : Fact) → Carries f g h → Touch f g
@@ -226,6 +225,7 @@ touch (in_itself c) = absurd c
 touch {k} {f = f} {g = g} {h = h} (by_form n form at gives) = from_two k form f g h gives
 touch {f = f} {g = g} {h = h} (unsatisfiable b) = carried f g h b
 touch (loop x n form at l c) = absurd c
+touch (apart l a b x are) = refl
 
 -- so what is listed for a fact is all that it gives something with, but for what need not be a second premise
 module _ {k : Problem} {d : Derived} {w m : List ℕ} {index : Index} (s : ListsFacts k d w m index) {most : ℕ} {new : Derived} (grows : Grows k most d new) (n : ℕ) (there : Contains w n) where

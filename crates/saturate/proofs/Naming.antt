@@ -1,17 +1,15 @@
--- What is named is still there where there is more.
-use Rattle.std.proofs.Common.{◌≡◌, ℕ, ◌+◌, ◌<◌, ◌≤◌, ⊎_elim, List, length, slice_get, get_or, Some, Contains, refl, subst, sym, ◌∙◌, arith, below_more}
+-- What is named is still there where there is more; and rows of what is named.
+use Rattle.std.proofs.Common.{◌≡◌, ◌↔◌, ◌≢◌, ℕ, ◌+◌, ◌<◌, ◌≤◌, ⊎_elim, Bool, true, false, List, length, slice_get, slice_set, get_or, get_or-set_other, get_or-set_same, Some, Contains, refl, subst, sym, ◌∙◌, arith, below_more}
+use Rattle.std.proofs.lemmas.Bool.{cases_lt, false≢true}
+use Rattle.number_sets.specs.Members.{has}
 use Rattle.std.specs.List.{All}
-use Rattle.std.proofs.lemmas.Bool.{cases_lt}
 use Rattle.std.proofs.lemmas.Option.{same_Some, slice_get-get_or, slice_get_within}
 use Rattle.inference.proofs.Lists.{Contains-from_slice_get, slice_get-from_Contains}
-use Rattle.axioms.specs.declared.ids.ExprId.{ExprId}
 use Rattle.normal_forms.specs.declared.forms.PropId2.{PropId2}
 use Rattle.normal_forms.specs.declared.forms.PropId2.TheVariants.{Property, Partial}
 use Rattle.normal_forms.specs.declared.forms.Form.{Form}
-use Rattle.normal_forms.specs.declared.forms.Form.TheVariants.{N1, N2, N3, N4, N5, N6, N7, N8, N9, N10, N11, N12}
+use Rattle.normal_forms.specs.declared.forms.Form.TheVariants.{N1, N2, N3, N4, N5, N6, N7, N8, N9, N10, N12}
 use Rattle.normal_forms.specs.Properties.{IsPropertyFormOf, property_forms}
-use Rattle.normal_forms.specs.Pairs.{StandFrom, disjoint_form}
-use Rattle.normal_forms.proofs.Pairs.{disjoint_at}
 use Rattle.property_closure.specs.PropertyClosures.{Known}
 use Rattle.inference.specs.PropertyClosures.{IsClosureOf}
 use Rattle.saturate.specs.declared.counts.Counts.{Counts}
@@ -32,7 +30,6 @@ form_stays c d m (N7 r) h = property_stays c d m (Property r) h
 form_stays c d m (N8 _ _) h = tt
 form_stays c d m (N9 _ _ _) h = tt
 form_stays c d m (N10 _ _) h = tt
-form_stays c d m (N11 _ _) h = tt
 form_stays c d m (N12 _ _ _) h = tt
 
 pub names_stay : (c d : Counts) → IsMore c d → (form : Form) → HasNames c form → HasNames d form
@@ -47,17 +44,6 @@ one_form_more c d forms k form m before at has = below_more NamedAt k (λ n low 
     NamedAt : ℕ → Type 0
     NamedAt n = (f : Form) → slice_get forms n ≡ Some f → HasNames d f
 
--- what holds of each form that stands before, and of each of disjoint classes, holds of each up to the end of theirs
-pub each_past : (P : Form → Type 0) {forms : List Form} {number : ℕ} {classes : List ExprId} {end : ℕ} → StandFrom forms number classes end → ((c d : ExprId) → P (disjoint_form c d))
-    → (n : ℕ) (form : Form) → (n < number → P form) → n < end → slice_get forms n ≡ Some form → P form
-each_past P {number = number} s disjoint n form before high at = ⊎_elim
-    before
-    (λ low. let (c, d, is) = disjoint_at s n form low high at in subst P (sym is) (disjoint c d))
-    (cases_lt n number)
-
-pub pairs_more : (c : Counts) {forms : List Form} {number : ℕ} {classes : List ExprId} {end : ℕ} → StandFrom forms number classes end → HasNamesBelow c forms number → HasNamesBelow c forms end
-pairs_more c s before n high form at = each_past (HasNames c) s (λ a b. record { named = tt; edges = λ p puts. absurd puts }) n form (λ low. before n low form at) high at
-
 pub all_named : (c : Counts) (forms : List Form) → ((form : Form) → Contains forms form → HasNames c form) → All (IsPropertyFormOf c.properties c.partials) forms
 all_named c forms has k d low = (has (get_or forms k d) (Contains-from_slice_get forms k (get_or forms k d) (slice_get-get_or forms k d low))).named
 
@@ -71,3 +57,28 @@ all_have_names c forms k all below form there =
 pub is_closure : (c : Counts) (forms : List Form) (known : Known) → ((form : Form) → Contains forms form → HasNames c form)
     → known ≡ record { properties = c.properties; partials = c.partials; forms = property_forms forms } → IsClosureOf forms known
 is_closure c forms known has is = subst (IsClosureOf forms) (sym is) (record { same = refl; has = λ form there p puts. (has form there).edges p puts })
+
+-- ---- rows of what is named
+
+abbrev TellsBelow : (ℕ → Type 0) → List Bool → ℕ → Type 0
+TellsBelow P row n = (k : ℕ) → k < n → (has row k ≡ true) ↔ P k
+
+abbrev LacksFrom : List Bool → ℕ → Type 0
+LacksFrom row n = (k : ℕ) → n ≤ k → has row k ≡ false
+
+-- one that is such is marked
+pub marked : (P : ℕ → Type 0) (row : List Bool) (n : ℕ) → n < length row → P n → TellsBelow P row n → TellsBelow P (slice_set row n true) (n + 1)
+marked P row n low is told k l = ⊎_elim
+    (λ (less : k < n). let other : k ≢ n = omega (arith, less) in rw get_or-set_other (told k less))
+    (λ (high : n ≤ k). let e : k ≡ n = omega (arith, l, high) in subst (λ (j : ℕ). (has (slice_set row n true) j ≡ true) ↔ P j) (sym e) (rw get_or-set_same ((λ _. is), (λ _. refl))))
+    (cases_lt k n)
+
+pub lacks_still : (row : List Bool) (n : ℕ) → LacksFrom row n → LacksFrom (slice_set row n true) (n + 1)
+lacks_still row n lacks k l = let other : k ≢ n = omega (arith, l) in rw get_or-set_other (lacks k (omega (arith, l)))
+
+-- one that is not stays unmarked
+pub unmarked : (P : ℕ → Type 0) (row : List Bool) (n : ℕ) → ¬ P n → TellsBelow P row n → LacksFrom row n → TellsBelow P row (n + 1)
+unmarked P row n not told lacks k l = ⊎_elim
+    (told k)
+    (λ high. let e : k ≡ n = omega (arith, l, high) in subst (λ (j : ℕ). (has row j ≡ true) ↔ P j) (sym e) ((λ yes. absurd (false≢true (sym (lacks n (omega arith)) ∙ yes))), (λ is. absurd (not is))))
+    (cases_lt k n)

@@ -3,6 +3,8 @@ use Rattle.std.proofs.Common.{◌≡◌, ℕ, ◌<◌, ◌≤◌, ◌⊎◌, inl
 use Rattle.std.specs.List.{AllByRecursion}
 use Rattle.std.proofs.lemmas.List.Elements.{Contains-push_cases}
 use Rattle.std.proofs.lemmas.Option.{none-some, slice_get_within, slice_get-get_or}
+use Rattle.normal_forms.specs.Apart.{no_lists}
+use Rattle.normal_forms.specs.declared.apart.ApartLists.{ApartLists}
 use Rattle.facts.specs.declared.contexts.Fact.{Fact}
 use Rattle.facts.specs.declared.contexts.Context.{Context}
 use Rattle.facts.specs.declared.contexts.Fact.TheVariants.{In}
@@ -132,8 +134,8 @@ module _ {k : Problem} {d : Derived} (ns : List ℕ) (derived : IsDerived k d) (
   pub finished : IsClosure k d.facts
   finished f = (λ c. sound derived c.0 f (slice_get-get_or d.facts c.0 f c.1 ∙ ap Some c.2), whole f)
 
--- there are no forms, no contexts and no facts
-module _ {k : Problem} (forms : k.forms ≡ []) (roots : k.roots ≡ []) where
+-- there are no forms, no lists, no contexts and no facts
+module _ {k : Problem} (forms : k.forms ≡ []) (lists : k.apart ≡ no_lists) (roots : k.roots ≡ []) where
   nowhere : {X : Type 0} (xs : List X) → xs ≡ [] → (n : ℕ) (x : X) → slice_get xs n ≡ Some x → ⊥
   nowhere {X} xs e n x at = none-some x (subst (λ (ys : List X). slice_get ys n ≡ Some x) e at)
 
@@ -146,7 +148,7 @@ module _ {k : Problem} (forms : k.forms ≡ []) (roots : k.roots ≡ []) where
   nothing_given facts c o f (by_form n form at gives) = absurd (nowhere k.forms forms n form at)
   nothing_given facts c o f (unsatisfiable back) = absurd back
   nothing_given facts c o f (loop x n form at l there) = absurd (nowhere k.forms forms n form at)
-  nothing_given facts c o f (different n a b at alike) = absurd (nowhere k.forms forms n _ at)
+  nothing_given facts c o f (different l a b (list, at, _) alike) = absurd (nowhere k.apart.individuals (ap (λ (ls : ApartLists). ls.individuals) lists) l list at)
 
   pub begun : {d : Derived} {q : Queued} → d.facts ≡ [] → d.births ≡ [] → q.queued ≡ 0 → q.served ≡ [] → IsUnderWay k d q
   begun {d} {q} facts births zero empty = record {

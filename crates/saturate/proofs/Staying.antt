@@ -1,8 +1,10 @@
 -- What the index lists is right still where no form that is added is of properties.
 use Rattle.std.proofs.Common.{◌≡◌, ℕ, zero, suc, ◌+◌, inl, inr, ⊎_elim, true, false, true≢false, List, [], ◌∷◌, ◌++◌, drop, length, slice_get, Some, None, Contains, refl, sym, ap, ◌∙◌, subst, arith}
 use Rattle.std.proofs.lemmas.List.Elements.{Contains-append_cases}
+use Rattle.normal_forms.specs.Apart.{AreContinuedBy}
+use Rattle.normal_forms.specs.declared.apart.ApartLists.{ApartLists}
 use Rattle.normal_forms.specs.declared.forms.Form.{Form}
-use Rattle.normal_forms.specs.declared.forms.Form.TheVariants.{N1, N2, N3, N4, N5, N6, N7, N8, N9, N10, N11, N12}
+use Rattle.normal_forms.specs.declared.forms.Form.TheVariants.{N1, N2, N3, N4, N5, N6, N7, N8, N9, N10, N12}
 use Rattle.normal_forms.specs.declared.forms.PropId2.{PropId2}
 use Rattle.normal_forms.specs.declared.forms.PropId2.TheVariants.{Property}
 use Rattle.normal_forms.specs.declared.forms.Class2.{Class2}
@@ -20,13 +22,13 @@ use Rattle.inference.specs.Visits.{IsNotCarried}
 use Rattle.inference.proofs.Lists.{Contains-from_slice_get, slice_get-from_Contains}
 use Rattle.saturate.specs.Requests.{Asks, IsAskedAnew}
 use Rattle.saturate.specs.GoingOn.{HasEntered}
-use Rattle.saturate.specs.Growth.{with_more, KeepsServed, LeaveProperties}
+use Rattle.saturate.specs.Growth.{with_more, IsGrownFrom, KeepsServed, LeaveProperties}
 use Rattle.saturate.specs.IndexedFacts.{ListsFacts}
 use Rattle.saturate.proofs.Entering.{entered}
 use Rattle.saturate.proofs.Extending.{new_or_there, redundant_more}
 use Rattle.saturate.proofs.Listing.{fewer}
 
-module _ (k : Problem) (forms : List Form) (roots : List Context) (leave : (form : Form) → Contains forms form → is_property_form form ≡ false) where
+module _ (k : Problem) (forms : List Form) (lists : ApartLists) (roots : List Context) (continued : AreContinuedBy k.apart lists) (leave : (form : Form) → Contains forms form → is_property_form form ≡ false) where
   -- no path is new
   below_still : (p q : PropId2) → IsAtOrBelow (k.forms ++ forms) p q → IsAtOrBelow k.forms p q
   below_still p _ same = same
@@ -35,7 +37,7 @@ module _ (k : Problem) (forms : List Form) (roots : List Context) (leave : (form
       (λ new. absurd (true≢false (leave (N5 s t) new)))
       (Contains-append_cases k.forms forms (N5 s t) c)
 
-  two_still : (form : Form) (g h f : Fact) → FromTwo (with_more k forms roots) form g h f → FromTwo k form g h f
+  two_still : (form : Form) (g h f : Fact) → FromTwo (with_more k forms lists roots) form g h f → FromTwo k form g h f
   two_still (N2 a b c) (In d x) (In e y) f w = w
   two_still (N2 a b c) (In d x) (Edge _ _ _) f w = absurd w
   two_still (N2 a b c) (Edge _ _ _) h f w = absurd w
@@ -52,11 +54,10 @@ module _ (k : Problem) (forms : List Form) (roots : List Context) (leave : (form
   two_still (N8 _ _) g h f w = absurd w
   two_still (N9 _ _ _) g h f w = absurd w
   two_still (N10 _ _) g h f w = absurd w
-  two_still (N11 _ _) g h f w = absurd w
   two_still (N12 _ _ _) g h f w = absurd w
 
   -- a form that gives something from two facts of which the second is an edge is a chain
-  chain : (form : Form) (g f : Fact) (z : Context) (q : PropId2) (v : Context) → FromTwo (with_more k forms roots) form g (Edge z q v) f → is_property_form form ≡ true
+  chain : (form : Form) (g f : Fact) (z : Context) (q : PropId2) (v : Context) → FromTwo (with_more k forms lists roots) form g (Edge z q v) f → is_property_form form ≡ true
   chain (N6 _ _ _) g f z q v w = refl
   chain (N5 _ _) g f z q v w = refl
   chain (N7 _) g f z q v w = refl
@@ -69,11 +70,10 @@ module _ (k : Problem) (forms : List Form) (roots : List Context) (leave : (form
   chain (N8 _ _) g f z q v w = absurd w
   chain (N9 _ _ _) g f z q v w = absurd w
   chain (N10 _ _) g f z q v w = absurd w
-  chain (N11 _ _) g f z q v w = absurd w
   chain (N12 _ _ _) g f z q v w = absurd w
 
   -- a form that gives something from an edge and a class asks for the class
-  restriction : (form : Form) (x : Context) (q : PropId2) (y : Context) (c : Class2) (z : Context) (f : Fact) → FromTwo (with_more k forms roots) form (Edge x q y) (In c z) f → Asks (k.forms ++ forms) form (In c z)
+  restriction : (form : Form) (x : Context) (q : PropId2) (y : Context) (c : Class2) (z : Context) (f : Fact) → FromTwo (with_more k forms lists roots) form (Edge x q y) (In c z) f → Asks (k.forms ++ forms) form (In c z)
   restriction (N4 r a b) x q y c z f w = w.1
   restriction (N1 _ _) x q y c z f w = absurd w
   restriction (N2 _ _ _) x q y c z f w = absurd w
@@ -84,42 +84,41 @@ module _ (k : Problem) (forms : List Form) (roots : List Context) (leave : (form
   restriction (N8 _ _) x q y c z f w = absurd w
   restriction (N9 _ _ _) x q y c z f w = absurd w
   restriction (N10 _ _) x q y c z f w = absurd w
-  restriction (N11 _ _) x q y c z f w = absurd w
   restriction (N12 _ _ _) x q y c z f w = absurd w
 
-  redundant_edge : (d : Derived) (z : Context) (q : PropId2) (v : Context) → IsRedundantAsSecond k d (Edge z q v) → IsRedundantAsSecond (with_more k forms roots) d (Edge z q v)
+  redundant_edge : (d : Derived) (z : Context) (q : PropId2) (v : Context) → IsRedundantAsSecond k d (Edge z q v) → IsRedundantAsSecond (with_more k forms lists roots) d (Edge z q v)
   redundant_edge d z q v redundant f _ _ _ (in_thing c) = absurd c
   redundant_edge d z q v redundant f _ _ _ (in_itself c) = absurd c
   redundant_edge d z q v redundant f h _ _ (by_form n form at gives) = ⊎_elim
       (λ before.
       let m = slice_get-from_Contains k.forms form before in
-      redundant_more k forms roots d f (Edge z q v) h m.0 n form m.1 at (redundant f h _ (Some m.0) (by_form m.0 form m.1 (two_still form f (Edge z q v) h gives))))
+      redundant_more k forms lists roots continued d f (Edge z q v) h m.0 n form m.1 at (redundant f h _ (Some m.0) (by_form m.0 form m.1 (two_still form f (Edge z q v) h gives))))
       (λ new. absurd (true≢false (sym (chain form f h z q v gives) ∙ leave form new)))
       (Contains-append_cases k.forms forms form (Contains-from_slice_get (k.forms ++ forms) n form at))
   redundant_edge d z q v redundant f h _ _ (unsatisfiable b) = absurd (redundant f h _ None (unsatisfiable b))
   redundant_edge d z q v redundant f _ _ _ (loop u m form at l c) = absurd c
 
-  uncarried : (c : Class2) (z : Context) → ¬ IsAskedAnew k.forms (k.forms ++ forms) (In c z) → IsNotCarried k (In c z) → IsNotCarried (with_more k forms roots) (In c z)
+  uncarried : (c : Class2) (z : Context) → ¬ IsAskedAnew k (with_more k forms lists roots) (In c z) → IsNotCarried k (In c z) → IsNotCarried (with_more k forms lists roots) (In c z)
   uncarried c z unasked not (In _ _) edge _ _ h gives = absurd edge
   uncarried c z unasked not (Edge x q y) edge _ _ _ (in_thing a) = absurd a
   uncarried c z unasked not (Edge x q y) edge _ _ _ (in_itself a) = absurd a
   uncarried c z unasked not (Edge x q y) edge _ _ h (by_form n form at gives) = ⊎_elim
-      (λ new. unasked (form, new, restriction form x q y c z h gives))
+      (λ new. unasked (inl (form, new, restriction form x q y c z h gives)))
       (λ before. not (Edge x q y) edge _ (Some before.0) h (by_form before.0 form before.1 (two_still form (Edge x q y) (In c z) h gives)))
       (new_or_there k.forms forms form (Contains-from_slice_get (k.forms ++ forms) n form at))
   uncarried c z unasked not (Edge x q y) edge _ _ h (unsatisfiable b) = not (Edge x q y) edge _ None h (unsatisfiable b)
   uncarried c z unasked not (Edge x q y) edge _ _ _ (loop u m form at l a) = absurd a
 
-  redundant_from : (d : Derived) (x : Context) (f : Fact) → IsFrom x f → IsRedundantAsSecond k d f → IsRedundantAsSecond (with_more k forms roots) d f
+  redundant_from : (d : Derived) (x : Context) (f : Fact) → IsFrom x f → IsRedundantAsSecond k d f → IsRedundantAsSecond (with_more k forms lists roots) d f
   redundant_from d x (In _ _) h redundant = absurd h
   redundant_from d x (Edge z q v) h redundant = redundant_edge d z q v redundant
 
-  uncarried_in : (x : Context) (f : Fact) → IsIn x f → ¬ IsAskedAnew k.forms (k.forms ++ forms) f → IsNotCarried k f → IsNotCarried (with_more k forms roots) f
+  uncarried_in : (x : Context) (f : Fact) → IsIn x f → ¬ IsAskedAnew k (with_more k forms lists roots) f → IsNotCarried k f → IsNotCarried (with_more k forms lists roots) f
   uncarried_in x (In c z) h unasked not = uncarried c z unasked not
   uncarried_in x (Edge _ _ _) h unasked not = absurd h
 
   -- of the facts that are listed those that no new form asks for are listed by all forms
-  listed_by_more : {d : Derived} {w m : List ℕ} {index : Index} (now : List ℕ) → KeepsServed k.forms (k.forms ++ forms) d.facts w now → ListsFacts k d w m index → ListsFacts (with_more k forms roots) d now m index
+  listed_by_more : {d : Derived} {w m : List ℕ} {index : Index} (now : List ℕ) → KeepsServed k (with_more k forms lists roots) d.facts w now → ListsFacts k d w m index → ListsFacts (with_more k forms lists roots) d now m index
   listed_by_more {d} {w} {m} {index} now keeps s = record {
     by_context = (fewer now m s (λ n c. ((keeps n).0 c).0) (part_same m)).by_context;
     second_premises = record {
@@ -155,11 +154,11 @@ added from all leave form there =
     let at = slice_get-from_Contains (drop from all) form there in
     leave (from + at.0) form (omega arith) (sym (slice_get_drop from all at.0) ∙ at.1)
 
-pub listed_then : {k j : Problem} {d : Derived} {w m : List ℕ} {index : Index} (from : ℕ) (roots : List Context) → j ≡ with_more k (drop from j.forms) roots → LeaveProperties from j.forms → (now : List ℕ) → KeepsServed k.forms j.forms d.facts w now → ListsFacts k d w m index → ListsFacts j d now m index
-listed_then {k} {j} {d} {w} {m} {index} from roots is leave now keeps s =
-    subst (λ (i : Problem). ListsFacts i d now m index) (sym is)
-    (listed_by_more k (drop from j.forms) roots (added from j.forms leave) now (subst (λ (fs : List Form). KeepsServed k.forms fs d.facts w now) (ap (λ (i : Problem). i.forms) is) keeps) s)
+pub listed_then : {k j : Problem} {d : Derived} {w m : List ℕ} {index : Index} (from : ℕ) → IsGrownFrom from k j → LeaveProperties from j.forms → (now : List ℕ) → KeepsServed k j d.facts w now → ListsFacts k d w m index → ListsFacts j d now m index
+listed_then {k} {j} {d} {w} {m} {index} from is leave now keeps s =
+    subst (λ (i : Problem). ListsFacts i d now m index) (sym is.problem)
+    (listed_by_more k (drop from j.forms) j.apart is.roots is.lists (added from j.forms leave) now (subst (λ (i : Problem). KeepsServed k i d.facts w now) is.problem keeps) s)
 
-pub entered_then : {k j : Problem} {d : Derived} {served : List ℕ} (from : ℕ) (roots : List Context) → j ≡ with_more k (drop from j.forms) roots → LeaveProperties from j.forms → IsCompleteUpToRedundancy k d served → HasEntered j (length k.roots) served d
-entered_then {k} {j} {d} {served} from roots is leave complete =
-    subst (λ (i : Problem). HasEntered i (length k.roots) served d) (sym is) (entered k (drop from j.forms) roots (added from j.forms leave) served complete)
+pub entered_then : {k j : Problem} {d : Derived} {served : List ℕ} (from : ℕ) → IsGrownFrom from k j → LeaveProperties from j.forms → IsCompleteUpToRedundancy k d served → HasEntered j (length k.roots) served d
+entered_then {k} {j} {d} {served} from is leave complete =
+    subst (λ (i : Problem). HasEntered i (length k.roots) served d) (sym is.problem) (entered k (drop from j.forms) j.apart is.roots (added from j.forms leave) served complete)

@@ -1,4 +1,4 @@
--- How facts and their turns go on after forms and roots were added.
+-- How facts and their turns go on after forms, lists and roots were added.
 use Rattle.std.specs.Prelude.{◌≡◌, ℕ, ◌<◌, ◌≤◌, List, [], length}
 use Rattle.std.specs.List.{Contains}
 use Rattle.facts.specs.declared.contexts.Fact.{Fact}

@@ -1,6 +1,7 @@
--- Which facts forms that are added ask for: what they give with others has to be drawn again.
+-- Which facts forms and lists of disjoint classes that are added ask for: what they give with others has to be drawn again.
 use Rattle.std.specs.Prelude.{◌≡◌, ◌⊎◌, ◌↔◌, ◌<◌, ℕ, Bool, true, List, length, slice_get, Some}
 use Rattle.std.specs.List.{Contains}
+use Rattle.axioms.specs.declared.ids.ExprId.{ExprId}
 use Rattle.axioms.specs.declared.ids.IndId.{IndId}
 use Rattle.normal_forms.specs.declared.forms.Form.{Form}
 use Rattle.normal_forms.specs.declared.forms.Form.TheVariants.{N1, N2, N3, N4, N5, N6, N7, N10, N12}
@@ -15,7 +16,8 @@ use Rattle.facts.specs.declared.contexts.Context.{Context}
 use Rattle.facts.specs.declared.contexts.Context.TheVariants.{Individual}
 use Rattle.facts.specs.declared.contexts.Fact.{Fact}
 use Rattle.facts.specs.declared.contexts.Fact.TheVariants.{In, Edge}
-use Rattle.facts.specs.Closure.{thing}
+use Rattle.facts.specs.Closure.{Problem, thing}
+use Rattle.indexes.specs.Apart.{IsInList}
 use Rattle.inference.specs.PropertyClosures.{IsClosureOf}
 
 -- one of the two individuals
@@ -37,6 +39,11 @@ Asks forms (N10 a b) (In c x) = IsOneOf a b x
 Asks forms (N10 a b) (Edge x p y) = IsOneOf a b x ⊎ IsOneOf a b y
 Asks forms (N12 a r b) (Edge x p y) = (x ≡ Individual a) × (y ≡ Individual b) × IsAtOrBelow forms p (Property r)
 Asks forms _ _ = ⊥
+
+-- the list of disjoint classes has the class of the fact: of two facts of its classes one is enough
+abbrev pub ListAsks : List ExprId → Fact → Type 0
+ListAsks cs (In a x) = (c : ExprId) × (a ≡ Expr c) × Contains cs c
+ListAsks cs (Edge x p y) = ⊥
 
 -- the form names the class, as one that makes a property reflexive names owl:Thing
 abbrev pub NamesClass : Form → Class2 → Type 0
@@ -73,42 +80,52 @@ BeginsWith (N5 r s) p = p ≡ Property r
 BeginsWith (N6 r s t) p = p ≡ r
 BeginsWith _ p = ⊥
 
--- a form that is there now, and to which none was equal before
-abbrev pub IsNew : List Form → List Form → Form → Type 0
-IsNew before now form = Contains now form × ¬ Contains before form
+-- what is there now, and to which nothing was equal before
+abbrev pub IsNew : {X : Type 0} → List X → List X → X → Type 0
+IsNew before now x = Contains now x × ¬ Contains before x
 
 -- one of the forms is such
 abbrev pub HasForm : (Form → Type 0) → List Form → Type 0
 HasForm P forms = (form : Form) × Contains forms form × P form
 
--- of each expression below the row's length the row says whether one of the forms names it
-abbrev pub AreNamed : List Form → List Bool → Type 0
-AreNamed forms row = (k : ℕ) → k < length row → (has row k ≡ true) ↔ HasForm (λ form. NamesClass form (Expr (record { 0 = k }))) forms
+-- one of the forms names the class, or one of the lists has it
+abbrev pub IsNamed : Problem → Class2 → Type 0
+IsNamed added a = HasForm (λ form. NamesClass form a) added.forms ⊎ IsInList added a
 
--- one of the added forms asks for the fact, by all forms
-abbrev pub IsAsked : List Form → List Form → Fact → Type 0
-IsAsked forms added f = HasForm (λ form. Asks forms form f) added
+-- of each expression below the row's length the row says whether one of the forms names it, or one of the lists has it
+abbrev pub AreNamed : Problem → List Bool → Type 0
+AreNamed added row = (k : ℕ) → k < length row → (has row k ≡ true) ↔ IsNamed added (Expr (record { 0 = k }))
+
+-- one of the forms asks for the fact, by all forms
+abbrev pub IsAskedByForm : List Form → List Form → Fact → Type 0
+IsAskedByForm all forms f = HasForm (λ form. Asks all form f) forms
+
+-- one of the lists asks for the fact
+abbrev pub IsAskedByList : List (List ExprId) → Fact → Type 0
+IsAskedByList lists f = (cs : List ExprId) × Contains lists cs × ListAsks cs f
+
+-- one of the added forms asks for the fact, by all forms, or one of the added lists does
+abbrev pub IsAsked : List Form → Problem → Fact → Type 0
+IsAsked all added f = IsAskedByForm all added.forms f ⊎ IsAskedByList added.apart.classes f
 
 -- a new form asks for the fact, by all that are there now
-abbrev pub IsAskedAnew : List Form → List Form → Fact → Type 0
-IsAskedAnew before now f = (form : Form) × IsNew before now form × Asks now form f
+abbrev pub NewFormAsks : List Form → List Form → Fact → Type 0
+NewFormAsks before now f = (form : Form) × IsNew before now form × Asks now form f
 
--- what the form asks for, one of these asks for
-abbrev pub AskFor : List Form → Form → Type 0
-AskFor new form = (forms : List Form) (f : Fact) → Asks forms form f → IsAsked forms new f
+-- a new list asks for the fact
+abbrev pub NewListAsks : List (List ExprId) → List (List ExprId) → Fact → Type 0
+NewListAsks before now f = (cs : List ExprId) × IsNew before now cs × ListAsks cs f
 
--- to the old forms some of these are added that are not among the earlier ones, such that the new forms ask for all that those ask for
-pub record AddsNew (before forms old new : List Form) : Type 0 where
-  pub kept : (form : Form) → Contains old form → Contains new form
-  pub each : (form : Form) → Contains new form → Contains old form ⊎ IsNew before forms form
-  pub all : (form : Form) → IsNew before forms form → AskFor new form
+-- a new form asks for the fact, or a new list of disjoint classes does
+abbrev pub IsAskedAnew : Problem → Problem → Fact → Type 0
+IsAskedAnew before now f = NewFormAsks before.forms now.forms f ⊎ NewListAsks before.apart.classes now.apart.classes f
 
 -- what has that number is such
 abbrev pub IsSuchAt : {X : Type 0} → (X → Type 0) → List X → ℕ → Type 0
 IsSuchAt {X} P xs n = (x : X) × (slice_get xs n ≡ Some x) × P x
 
--- a new form asks for the fact of that number
-abbrev pub IsAskedAt : List Form → List Form → List Fact → ℕ → Type 0
+-- a new form or a new list asks for the fact of that number
+abbrev pub IsAskedAt : Problem → Problem → List Fact → ℕ → Type 0
 IsAskedAt before now facts n = IsSuchAt (IsAskedAnew before now) facts n
 
 -- one of the added forms is such, or none is, by all forms, if the closure is that of all
@@ -118,9 +135,9 @@ HasUnder closure P added = (all : List Form) → IsClosureOf all closure → Has
 abbrev pub LacksUnder : Known → (List Form → Form → Type 0) → List Form → Type 0
 LacksUnder closure P added = (all : List Form) → IsClosureOf all closure → HasForm (P all) added → ⊥
 
--- one of the added forms asks for the fact, or none does, by all forms, if the closure is that of all
-abbrev pub IsAskedUnder : Known → List Form → Fact → Type 0
-IsAskedUnder closure added f = HasUnder closure (λ all form. Asks all form f) added
+-- one of the added forms or lists asks for the fact, or none does, by all forms, if the closure is that of all
+abbrev pub IsAskedUnder : Known → Problem → Fact → Type 0
+IsAskedUnder closure added f = (all : List Form) → IsClosureOf all closure → IsAsked all added f
 
-abbrev pub IsUnaskedUnder : Known → List Form → Fact → Type 0
-IsUnaskedUnder closure added f = LacksUnder closure (λ all form. Asks all form f) added
+abbrev pub IsUnaskedUnder : Known → Problem → Fact → Type 0
+IsUnaskedUnder closure added f = (all : List Form) → IsClosureOf all closure → IsAsked all added f → ⊥

@@ -1,6 +1,7 @@
 -- The engine's state.
 use Rattle.std.specs.Prelude.{◌≡◌, ℕ, ◌<◌, ◌≤◌, List, [], length, slice_get, take, Some}
 use Rattle.std.specs.List.{Contains}
+use Rattle.normal_forms.specs.Apart.{no_lists}
 use Rattle.facts.specs.declared.contexts.Fact.{Fact}
 use Rattle.facts.specs.Closure.{Problem}
 use Rattle.facts.specs.Births.{Reason, IsBirth}
@@ -15,9 +16,9 @@ pub record Seen : Type 0 where
   pub births : List Reason
   pub served : List ℕ
 
--- no forms, no contexts, no facts
+-- no forms, no lists, no contexts, no facts
 abbrev pub nothing_seen : Seen
-nothing_seen = record { problem = record { forms = []; roots = [] }; facts = []; births = []; served = [] }
+nothing_seen = record { problem = record { forms = []; apart = no_lists; roots = [] }; facts = []; births = []; served = [] }
 
 -- what a state keeps: facts with reasons, of which some are queued; and what served facts give is there, but for what is redundant
 pub record IsUnderWay (k : Problem) (d : Derived) (q : Queued) : Type 0 where

@@ -1,4 +1,4 @@
-//! Which facts forms that are added ask for.
+//! Which facts forms and lists of disjoint classes that are added ask for.
 ghost use Rattle.facts.specs.declared.contexts.Context.TheVariants as the_contexts;
 ghost use Rattle.facts.specs.declared.contexts.Fact.TheVariants as the_facts;
 ghost use Rattle.normal_forms.specs.declared.forms.Form.{Form as Form2};
@@ -8,7 +8,7 @@ ghost use Rattle.facts.specs.Closure.{thing};
 ghost use Rattle.indexes.specs.declared.keys.Key.TheVariants.{Whole};
 ghost use Rattle.indexes.specs.Keys.{by_filler, by_first, by_kind, class_key};
 ghost use Rattle.property_closure.specs.PropertyClosures.{Has};
-ghost use Rattle.saturate.specs.Requests.{AreNamed, BeginsWith, Denies, HasForm, HasUnder, IsAsked, IsAskedUnder, IsSuchAt, IsUnaskedUnder, LacksUnder, NamesAbove, NamesClass, NamesIndividual};
+ghost use Rattle.saturate.specs.Requests.{AreNamed, BeginsWith, Denies, HasForm, HasUnder, IsAsked, IsAskedUnder, IsNamed, IsSuchAt, IsUnaskedUnder, LacksUnder, NamesAbove, NamesClass, NamesIndividual};
 ghost use Rattle.inference.specs.PropertyClosures.{IsClosureOf};
 ghost use Rattle.inference.specs.Visits.{HasProperty, NoneUnder};
 ghost use Rattle.std.specs.Prelude.{◌≡◌, ◌⊎◌, ◌↔◌, ℕ, Contains, IfOk, IsTrue, List, false, true};
@@ -64,17 +64,25 @@ fn asks_for_more(added: &IndexedProblem, class: Class2) -> bool
 }
 
 /// Whether one of the added forms asks for the facts of a class.
-fn asks_for_class(added: &IndexedProblem, class: Class2) -> bool
+fn asks_by_form(added: &IndexedProblem, class: Class2) -> bool
     ensures yes { result ≡ true → HasForm (λ form. NamesClass form class) added.now.forms }
     ensures no { result ≡ false → HasForm (λ form. NamesClass form class) added.now.forms → ⊥ }
 {
     is_used(added.alone(class)) || asks_for_more(added, class)
 }
 
-/// Of the expressions below the number whether one of the added forms asks for the facts of the class: a look at a bit is less than one
-/// at three lists, where there are many facts.
+/// Whether one of the added forms or lists asks for the facts of a class.
+fn asks_for_class(added: &IndexedProblem, class: Class2) -> bool
+    ensures yes { result ≡ true → IsNamed added.now class }
+    ensures no { result ≡ false → IsNamed added.now class → ⊥ }
+{
+    added.is_in_list(class) || asks_by_form(added, class)
+}
+
+/// Of the expressions below the number whether one of the added forms or lists asks for the facts of the class: a look at a bit is less
+/// than one at four lists, where there are many facts.
 pub(crate) fn named_classes(alloc: Global, added: &IndexedProblem, end: u32) -> Result<Row, Memory>
-    ensures { IfOk result (AreNamed added.now.forms) }
+    ensures { IfOk result (AreNamed added.now) }
 {
     let mut classes = Row::new(alloc, end as usize)?;
     for number in 0..end {
@@ -85,11 +93,11 @@ pub(crate) fn named_classes(alloc: Global, added: &IndexedProblem, end: u32) -> 
     Ok(classes)
 }
 
-/// Whether one of the added forms asks for the facts of a class, of which these are told.
+/// Whether one of the added forms or lists asks for the facts of a class, of which these are told.
 fn is_named(added: &IndexedProblem, classes: &Row, class: Class2) -> bool
-    requires { AreNamed added.now.forms classes.now }
-    ensures yes { result ≡ true → HasForm (λ form. NamesClass form class) added.now.forms }
-    ensures no { result ≡ false → HasForm (λ form. NamesClass form class) added.now.forms → ⊥ }
+    requires { AreNamed added.now classes.now }
+    ensures yes { result ≡ true → IsNamed added.now class }
+    ensures no { result ≡ false → IsNamed added.now class → ⊥ }
 {
     match class {
         Class2::Expr(class) if class.index() < classes.len() => classes.contains(class.index()),
@@ -244,11 +252,11 @@ fn asks_for_denied(
     }
 }
 
-/// Whether one of the added forms asks for the class in the context.
+/// Whether one of the added forms or lists asks for the class in the context.
 fn asks_for_member(added: &IndexedProblem, classes: &Row, class: Class2, context: Context) -> bool
-    requires { AreNamed added.now.forms classes.now }
-    ensures yes { result ≡ true → (all : List Form2) → IsAsked all added.now.forms (the_facts.In class context) }
-    ensures no { result ≡ false → (all : List Form2) → IsAsked all added.now.forms (the_facts.In class context) → ⊥ }
+    requires { AreNamed added.now classes.now }
+    ensures yes { result ≡ true → (all : List Form2) → IsAsked all added.now (the_facts.In class context) }
+    ensures no { result ≡ false → (all : List Form2) → IsAsked all added.now (the_facts.In class context) → ⊥ }
 {
     is_named(added, classes, class) || asks_for_individual(added, context)
 }
@@ -262,25 +270,26 @@ fn asks_for_edge(
     target: Context,
 ) -> bool
     requires { Has closure.now property }
-    ensures yes { result ≡ true → IsAskedUnder closure.now added.now.forms (the_facts.Edge source property target) }
-    ensures no { result ≡ false → IsUnaskedUnder closure.now added.now.forms (the_facts.Edge source property target) }
+    ensures yes { result ≡ true → IsAskedUnder closure.now added.now (the_facts.Edge source property target) }
+    ensures no { result ≡ false → IsUnaskedUnder closure.now added.now (the_facts.Edge source property target) }
 {
     asks_for_edges(added, closure, property)
         || asks_for_ends(added, source, target)
         || asks_for_denied(added, closure, source, property, target)
 }
 
-/// Whether one of the added forms asks for the fact. Of some classes it is told whether one asks for them; the closure is that of all forms.
+/// Whether one of the added forms or lists asks for the fact. Of some classes it is told whether one asks for them; the closure is that of
+/// all forms.
 pub(crate) fn asks_for(
     added: &IndexedProblem,
     classes: &Row,
     closure: &PropertyClosure,
     fact: Fact,
 ) -> bool
-    requires named { AreNamed added.now.forms classes.now }
+    requires named { AreNamed added.now classes.now }
     requires property { HasProperty closure.now fact }
-    ensures yes { result ≡ true → IsAskedUnder closure.now added.now.forms fact }
-    ensures no { result ≡ false → IsUnaskedUnder closure.now added.now.forms fact }
+    ensures yes { result ≡ true → IsAskedUnder closure.now added.now fact }
+    ensures no { result ≡ false → IsUnaskedUnder closure.now added.now fact }
 {
     match fact {
         Fact::In(class, context) => asks_for_member(added, classes, class, context),

@@ -61,14 +61,8 @@ pub(crate) fn counted(forms: &FormList) -> Counts
         properties: 0,
         partials: 0,
     };
-    let mut number = 0;
-    while number < forms.len() {
-        if let Some(disjoint) = forms.disjoint_from(number) {
-            number = disjoint.end;
-        } else {
-            counts = counts.with_form(&forms.at(number));
-            number += 1;
-        }
+    for number in 0..forms.len() {
+        counts = counts.with_form(&forms.at(number));
     }
     counts
 }

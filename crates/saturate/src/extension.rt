@@ -1,6 +1,7 @@
-//! Facts and their turns after forms and roots were added.
+//! Facts and their turns after forms, lists of what is apart and roots were added.
 ghost use Rattle.saturate.specs.IndexedFacts.{ListsFacts, ListsServed};
 ghost use Rattle.inference.specs.Derivations.{IsDerived};
+ghost use Rattle.normal_forms.specs.Apart.{AreContinuedBy};
 ghost use Rattle.normal_forms.specs.Properties.{is_property_form};
 ghost use Rattle.saturate.specs.Flags.{IsFlagged, ListsServedStill, ListsThoseKept, ListsUnlessFlagged, kept};
 ghost use Rattle.saturate.specs.GoingOn.{GoOn, HasEntered, HaveTurns, IsBegun, Stay};
@@ -14,6 +15,7 @@ ghost use Rattle.std.specs.Prelude.{◌≡◌, ◌<◌, ◌≤◌, ◌++◌, ℕ
 use crate::additions::{asks_for, named_classes};
 use crate::ground::Ground;
 use crate::new_forms::new_forms;
+use crate::new_lists::new_lists;
 use crate::queue::{Queue, has_flag};
 use axioms::Memory;
 use facts::Fact;
@@ -23,7 +25,7 @@ use normal_forms::{Form, FormList};
 use std::alloc::Global;
 use work_list::WorkList;
 
-/// Of each fact whether one of the added forms asks for it.
+/// Of each fact whether one of the added forms or lists asks for it.
 fn flagged(
     alloc: Global,
     ground: &Ground,
@@ -32,7 +34,7 @@ fn flagged(
 ) -> Result<Vec<bool>, Memory>
     requires { IsDerived ground.now facts.now }
     ensures few { IfOk result (λ flags. length flags.items ≤ length facts.now.facts) }
-    ensures flags { IfOk result (λ flags. (n : ℕ) → n < length facts.now.facts → IsFlagged (IsAsked ground.now.forms added.now.forms) facts.now.facts flags.items n) }
+    ensures flags { IfOk result (λ flags. (n : ℕ) → n < length facts.now.facts → IsFlagged (IsAsked ground.now.forms added.now) facts.now.facts flags.items n) }
 {
     let closure = ground.closure();
     let end = expected_contexts(ground.problem()).min(u32::MAX as usize) as u32;
@@ -44,7 +46,7 @@ fn flagged(
     Ok(flags)
 }
 
-/// Of the facts that are served whether a new one of the forms from that number on asks for them.
+/// Of the facts that are served whether a new one of the forms from that number on, or a new list, asks for them.
 fn flags_of(
     alloc: Global,
     earlier: &IndexedProblem,
@@ -54,16 +56,18 @@ fn flags_of(
     served: &[u32],
 ) -> Result<Vec<bool>, Memory>
     requires earlier { take from ground.now.forms ≡ earlier.now.forms }
+    requires lists { AreContinuedBy earlier.now.apart ground.now.apart }
     requires derived { IsDerived ground.now facts.now }
     requires served { (n : ℕ) → Contains served.now n → n < length facts.now.facts }
     ensures few { IfOk result (λ flags. length flags.items ≤ length facts.now.facts) }
-    ensures flags { IfOk result (λ flags. (n : ℕ) → Contains served.now n → IsFlagged (IsAskedAnew earlier.now.forms ground.now.forms) facts.now.facts flags.items n) }
+    ensures flags { IfOk result (λ flags. (n : ℕ) → Contains served.now n → IsFlagged (IsAskedAnew earlier.now ground.now) facts.now.facts flags.items n) }
 {
     if served.is_empty() {
         return Ok(Vec::new(alloc));
     }
-    let new = new_forms(alloc, earlier, ground.problem().forms(), from)?;
-    let added = IndexedProblem::new(alloc, new, Vec::new(alloc))?;
+    let forms = new_forms(alloc, earlier, ground.problem().forms(), from)?;
+    let apart = new_lists(alloc, earlier.apart(), ground.problem().apart())?;
+    let added = IndexedProblem::new(alloc, forms, apart, Vec::new(alloc))?;
     let flags = flagged(alloc, ground, &added, facts);
     drop(added);
     flags
@@ -100,17 +104,14 @@ const FACTS_OF_CONTEXT: usize = 4;
 
 /// How many facts there may well be. It decides nothing.
 fn expected_facts(problem: &IndexedProblem) -> usize {
-    let of_forms = problem.forms().entries().saturating_mul(FACTS_OF_FORM);
+    let of_forms = problem.forms().len().saturating_mul(FACTS_OF_FORM);
     let of_contexts = problem.roots().len().saturating_mul(FACTS_OF_CONTEXT);
     of_forms.saturating_add(of_contexts)
 }
 
 /// Up to which number contexts may well come. It decides nothing.
 fn expected_contexts(problem: &IndexedProblem) -> usize {
-    problem
-        .roots()
-        .len()
-        .saturating_add(problem.forms().entries())
+    problem.roots().len().saturating_add(problem.forms().len())
 }
 
 /// An index of those of the facts that are not flagged.
@@ -228,14 +229,9 @@ fn is_of_properties(form: Form) -> bool
 fn leave_properties(forms: &FormList, from: usize) -> bool
     ensures { result ≡ true → LeaveProperties from forms.now }
 {
-    let mut number = from;
-    while number < forms.len() {
-        if let Some(disjoint) = forms.disjoint_from(number) {
-            number = disjoint.end;
-        } else if is_of_properties(forms.at(number)) {
+    for number in from..forms.len() {
+        if is_of_properties(forms.at(number)) {
             return false;
-        } else {
-            number += 1;
         }
     }
     true
@@ -316,7 +312,7 @@ fn listed_still<W: WorkList>(
     Ok(())
 }
 
-/// Goes on from more roots, and more forms, from that number on. The index lists the served facts; where no added form is one of
+/// Goes on from more roots, more lists of what is apart, and more forms, from that number on. The index lists the served facts; where no added form is one of
 /// properties, and few numbers stand beside those of facts that are pending again, it is not made anew. Changes nothing where memory is
 /// refused.
 pub(crate) fn carry_on<W: WorkList>(
@@ -335,7 +331,7 @@ pub(crate) fn carry_on<W: WorkList>(
     requires turns { HaveTurns facts.old.facts queue.old }
     requires listed { ListsServed earlier.now facts.old queue.old index.old }
     ensures goes_on { OnOk result (GoOn ground.now u32.MAX facts.old facts.new queue.old queue.new index.new) }
-    ensures served { OnOk result (KeepsServed earlier.now.forms ground.now.forms facts.old.facts queue.old.served queue.new.served) }
+    ensures served { OnOk result (KeepsServed earlier.now ground.now facts.old.facts queue.old.served queue.new.served) }
     ensures err { OnErr result (Stay facts.old facts.new queue.old queue.new index.old index.new) }
 {
     let flags = flags_of(alloc, earlier, ground, from, facts, queue.numbers())?;

@@ -2,6 +2,7 @@
 ghost use Rattle.inference.specs.PropertyClosures.{IsClosureOf};
 ghost use Rattle.inference.specs.Sameness.{AreGroupsOf};
 ghost use Rattle.inference.specs.Joins.{AreJoins};
+ghost use Rattle.normal_forms.specs.Apart.{no_lists};
 ghost use Rattle.std.specs.Prelude.{◌≡◌, ◌++◌, [], IfOk};
 
 use crate::counts::counted;
@@ -9,13 +10,13 @@ use axioms::Memory;
 use facts::Context;
 use indexes::{Groups, IndexedProblem};
 use inference::Joins;
-use normal_forms::FormList;
+use normal_forms::{ApartLists, FormList};
 use property_closure::{PropertyClosure, close};
 use std::alloc::Global;
 use std::marker::Model;
 
-/// Normal forms and the contexts that are there from the start, with what the forms say of properties, which individuals they make one, and
-/// which edges their chains join.
+/// Normal forms, lists of what is apart and the contexts that are there from the start, with what the forms say of properties, which
+/// individuals they make one, and which edges their chains join.
 #[derive(Drop)]
 pub(crate) struct Ground {
     problem: IndexedProblem,
@@ -46,9 +47,10 @@ fn closed(alloc: Global, forms: &FormList) -> Result<PropertyClosure, Memory>
 }
 
 impl Ground {
-    /// No forms and no contexts.
+    /// No forms, no lists and no contexts.
     pub(crate) fn empty(alloc: Global) -> Result<Ground, Memory>
         ensures forms { IfOk result (λ g. g.forms ≡ []) }
+        ensures apart { IfOk result (λ g. g.apart ≡ no_lists) }
         ensures roots { IfOk result (λ g. g.roots ≡ []) }
     {
         let none = FormList::new(alloc);
@@ -64,19 +66,21 @@ impl Ground {
         })
     }
 
-    /// These forms, and the same contexts with those that are added.
+    /// These forms and lists, and the same contexts with those that are added.
     pub(crate) fn grown(
         &self,
         alloc: Global,
         forms: &FormList,
+        apart: &ApartLists,
         roots: &[Context],
     ) -> Result<Ground, Memory>
         ensures forms { IfOk result (λ g. g.forms ≡ forms.now) }
+        ensures apart { IfOk result (λ g. g.apart ≡ apart.now) }
         ensures roots { IfOk result (λ g. g.roots ≡ self.now.roots ++ roots.now) }
     {
         let groups = Groups::of(alloc, forms)?;
         let closure = closed(alloc, forms)?;
-        let problem = self.problem.grown(forms, roots)?;
+        let problem = self.problem.grown(forms, apart, roots)?;
         let joins = Joins::of(alloc, &problem, &closure)?;
         Ok(Ground {
             problem,
@@ -86,7 +90,7 @@ impl Ground {
         })
     }
 
-    /// The forms and contexts.
+    /// The forms, lists and contexts.
     pub(crate) fn problem(&self) -> &IndexedProblem
         ensures { result.now ≡ self.now }
     {

@@ -9,6 +9,7 @@ mod kept;
 mod laws;
 mod listed_facts;
 mod new_forms;
+mod new_lists;
 mod order;
 mod progress;
 mod queue;

@@ -8,13 +8,14 @@ ghost use Rattle.saturate.specs.Run.{HasRun, IsState};
 ghost use Rattle.saturate.specs.ServedFacts.{AreNumbersOf};
 ghost use Rattle.saturate.specs.State.{GaveFact};
 ghost use Rattle.inference.specs.Completeness.{IsClosure};
+ghost use Rattle.normal_forms.specs.Apart.{AreContinuedBy};
 
 use crate::kept::Kept;
 use crate::state::State;
 use axioms::Memory;
 use facts::{Birth, Context, Fact, FactId, StoredFact};
 use inference::Stop;
-use normal_forms::FormList;
+use normal_forms::{ApartLists, FormList};
 use property_closure::PropertyClosure;
 use std::marker::Model;
 use work_list::WorkList;
@@ -153,22 +154,29 @@ impl<W: WorkList> Progress<W> {
         }
     }
 
-    /// Adds forms and contexts that are there from the start, as `State::extend` does. It may grow.
+    /// Adds forms, lists of what is apart and contexts that are there from the start, as `State::extend` does. It may grow.
     ///
     /// # Errors
     ///
     /// As for `State::extend`; then nothing changes.
-    pub fn extend(&mut self, all: &FormList, from: usize, roots: &[Context]) -> Result<(), Memory>
+    pub fn extend(
+        &mut self,
+        all: &FormList,
+        from: usize,
+        apart: &ApartLists,
+        roots: &[Context],
+    ) -> Result<(), Memory>
         requires can_grow { self.old.can_grow ≡ true }
         requires forms { take from all.now ≡ self.old.seen.problem.forms }
-        ensures grown { OnOk result (HasGrown (drop from all.now) roots.now self.old.seen self.new.seen) }
-        ensures served { OnOk result (KeepsServed self.old.seen.problem.forms self.new.seen.problem.forms self.old.seen.facts self.old.seen.served self.new.seen.served) }
+        requires lists { AreContinuedBy self.old.seen.problem.apart apart.now }
+        ensures grown { OnOk result (HasGrown (drop from all.now) apart.now roots.now self.old.seen self.new.seen) }
+        ensures served { OnOk result (KeepsServed self.old.seen.problem self.new.seen.problem self.old.seen.facts self.old.seen.served self.new.seen.served) }
         ensures state { IsState self.new.seen }
         ensures can_grow { self.new.can_grow ≡ true }
         ensures err { OnErr result (self.new ≡ self.old) }
     {
         match &mut self.stage {
-            Stage::Growing(state) => state.extend(all, from, roots),
+            Stage::Growing(state) => state.extend(all, from, apart, roots),
             Stage::Kept(_) => unreachable!(),
         }
     }
@@ -183,6 +191,7 @@ impl<W: WorkList> Progress<W> {
         list: W,
         all: &FormList,
         from: usize,
+        apart: &ApartLists,
         roots: &[Context],
     ) -> Result<Progress<W>, Memory>
     where
@@ -190,14 +199,15 @@ impl<W: WorkList> Progress<W> {
         requires can_grow { self.now.can_grow ≡ true }
         requires list { W.pending list ≡ [] }
         requires forms { take from all.now ≡ self.now.seen.problem.forms }
+        requires lists { AreContinuedBy self.now.seen.problem.apart apart.now }
         requires finished { length self.now.seen.served ≡ length self.now.seen.facts }
-        ensures grown { IfOk result (λ p. HasGrown (drop from all.now) roots.now self.now.seen p.seen) }
-        ensures served { IfOk result (λ p. KeepsServed self.now.seen.problem.forms p.seen.problem.forms self.now.seen.facts self.now.seen.served p.seen.served) }
+        ensures grown { IfOk result (λ p. HasGrown (drop from all.now) apart.now roots.now self.now.seen p.seen) }
+        ensures served { IfOk result (λ p. KeepsServed self.now.seen.problem p.seen.problem self.now.seen.facts self.now.seen.served p.seen.served) }
         ensures state { IfOk result (λ p. IsState p.seen) }
         ensures can_grow { IfOk result (λ p. p.can_grow ≡ true) }
     {
         match &self.stage {
-            Stage::Growing(state) => Ok(Progress::new(state.grown(list, all, from, roots)?)),
+            Stage::Growing(state) => Ok(Progress::new(state.grown(list, all, from, apart, roots)?)),
             Stage::Kept(_) => unreachable!(),
         }
     }

@@ -7,6 +7,7 @@ ghost use Rattle.saturate.specs.Growth.{HasGrown, KeepsServed};
 ghost use Rattle.saturate.specs.Run.{HasRun, IsLeft, IsState, IsStep};
 ghost use Rattle.inference.specs.PropertyClosures.{IsClosureOf};
 ghost use Rattle.inference.specs.Completeness.{IsClosure};
+ghost use Rattle.normal_forms.specs.Apart.{AreContinuedBy};
 
 use crate::extension::carry_on;
 use crate::ground::Ground;
@@ -16,7 +17,7 @@ use axioms::Memory;
 use facts::{Birth, Context, Fact, FactId, StoredFact};
 use indexes::Index;
 use inference::{KnownFacts, Rules, Stop, is_filler, is_second_premise};
-use normal_forms::FormList;
+use normal_forms::{ApartLists, FormList};
 use property_closure::PropertyClosure;
 use std::alloc::Global;
 use std::hash::RandomState;
@@ -58,7 +59,7 @@ impl<W: WorkList> Model for State<W> {
 }
 
 impl<W: WorkList> State<W> {
-    /// No forms, no contexts and so no facts.
+    /// No forms, no lists, no contexts and so no facts.
     ///
     /// # Errors
     ///
@@ -80,22 +81,31 @@ impl<W: WorkList> State<W> {
         })
     }
 
-    /// Adds forms and contexts that are there from the start: `all` has the forms so far and then, from number `from` on, those that
-    /// are added. Where `all` is a list that is shared, it is not copied. Facts that are served stay so, but for those that an added form
-    /// asks for to which no earlier form is equal: these are pending again.
+    /// Adds forms, lists of what is apart and contexts that are there from the start: `all` has the forms so far and then, from number
+    /// `from` on, those that are added, and `apart` the lists so far and then those that are added. Where `all` is a list that is shared, it
+    /// is not copied. Facts that are served stay so, but for those that an added form or list of disjoint classes asks for to which no
+    /// earlier one is equal: these are pending again.
     ///
     /// # Errors
     ///
-    /// `Memory` where memory was refused, or there are 2^32 forms, or there would be as many facts; then nothing changes.
-    pub fn extend(&mut self, all: &FormList, from: usize, roots: &[Context]) -> Result<(), Memory>
-        requires { take from all.now ≡ self.old.problem.forms }
-        ensures grown { OnOk result (HasGrown (drop from all.now) roots.now self.old self.new) }
-        ensures served { OnOk result (KeepsServed self.old.problem.forms self.new.problem.forms self.old.facts self.old.served self.new.served) }
+    /// `Memory` where memory was refused, or there are 2^32 forms, lists or members of lists, or there would be as many facts; then nothing
+    /// changes.
+    pub fn extend(
+        &mut self,
+        all: &FormList,
+        from: usize,
+        apart: &ApartLists,
+        roots: &[Context],
+    ) -> Result<(), Memory>
+        requires forms { take from all.now ≡ self.old.problem.forms }
+        requires lists { AreContinuedBy self.old.problem.apart apart.now }
+        ensures grown { OnOk result (HasGrown (drop from all.now) apart.now roots.now self.old self.new) }
+        ensures served { OnOk result (KeepsServed self.old.problem self.new.problem self.old.facts self.old.served self.new.served) }
         ensures state { IsState self.new }
         ensures err { OnErr result (self.new ≡ self.old) }
     {
         self.well_formed();
-        let ground = self.ground.grown(self.alloc, all, roots)?;
+        let ground = self.ground.grown(self.alloc, all, apart, roots)?;
         match carry_on(
             self.alloc,
             self.ground.problem(),
@@ -118,32 +128,35 @@ impl<W: WorkList> State<W> {
     }
 
     /// A state with copies of these facts that has grown as by `extend`: `all` has the forms so far and then, from number `from` on,
-    /// those that are added. This one, all of whose facts are served, stays as it is. The list of work is empty.
+    /// those that are added, and `apart` the lists so far and then those that are added. This one, all of whose facts are served, stays as
+    /// it is. The list of work is empty.
     ///
     /// # Errors
     ///
-    /// `Memory` where memory was refused, or there are 2^32 forms, or there would be as many facts.
+    /// `Memory` where memory was refused, or there are 2^32 forms, lists or members of lists, or there would be as many facts.
     pub fn grown(
         &self,
         list: W,
         all: &FormList,
         from: usize,
+        apart: &ApartLists,
         roots: &[Context],
     ) -> Result<State<W>, Memory>
     where
         W: Drop,
         requires list { W.pending list ≡ [] }
         requires forms { take from all.now ≡ self.now.problem.forms }
+        requires lists { AreContinuedBy self.now.problem.apart apart.now }
         requires finished { length self.now.served ≡ length self.now.facts }
-        ensures grown { IfOk result (HasGrown (drop from all.now) roots.now self.now) }
-        ensures served { IfOk result (λ s. KeepsServed self.now.problem.forms s.problem.forms self.now.facts self.now.served s.served) }
+        ensures grown { IfOk result (HasGrown (drop from all.now) apart.now roots.now self.now) }
+        ensures served { IfOk result (λ s. KeepsServed self.now.problem s.problem self.now.facts self.now.served s.served) }
         ensures state { IfOk result IsState }
     {
         self.well_formed();
         let mut queue = self.queue.copy(list)?;
         let mut facts = self.facts.copy()?;
         let mut index = self.index.copy()?;
-        let ground = self.ground.grown(self.alloc, all, roots)?;
+        let ground = self.ground.grown(self.alloc, all, apart, roots)?;
         carry_on(
             self.alloc,
             self.ground.problem(),
@@ -169,6 +182,13 @@ impl<W: WorkList> State<W> {
         ensures { result.now ≡ self.now.problem.forms }
     {
         self.ground.problem().forms()
+    }
+
+    /// The lists of what is apart, in the order in which they were added.
+    pub fn apart(&self) -> &ApartLists
+        ensures { result.now ≡ self.now.problem.apart }
+    {
+        self.ground.problem().apart()
     }
 
     /// The closure of the properties.

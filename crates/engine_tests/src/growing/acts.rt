@@ -5,6 +5,8 @@
 pub(super) enum Act {
     /// Adds the next so many forms and contexts of the problem, or those that are left.
     Extend(usize, usize),
+    /// Adds its next so many lists of different individuals, or those that are left.
+    Differ(usize),
     /// Serves one fact.
     Step,
     /// Runs to the end.
@@ -17,15 +19,20 @@ pub(super) enum Act {
     Has(usize),
 }
 
-/// All that a problem has.
+/// All forms and contexts that a problem has.
 pub(super) const ALL: Act = Act::Extend(100, 100);
 
-pub(super) const AT_ONCE: &[Act] = &[ALL, Act::Stop, Act::Run];
+/// All its lists.
+pub(super) const ALL_LISTS: Act = Act::Differ(100);
+
+pub(super) const AT_ONCE: &[Act] = &[ALL, ALL_LISTS, Act::Stop, Act::Run];
 
 pub(super) const SCRIPTS: &[&[Act]] = &[
     AT_ONCE,
     &[
         Act::Extend(1, 1),
+        Act::Run,
+        Act::Differ(1),
         Act::Run,
         Act::Extend(1, 1),
         Act::Run,
@@ -50,6 +57,7 @@ pub(super) const SCRIPTS: &[&[Act]] = &[
     ],
     &[
         Act::Step,
+        ALL_LISTS,
         Act::Extend(100, 1),
         Act::Run,
         Act::Extend(0, 2),

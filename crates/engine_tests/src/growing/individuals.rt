@@ -1,4 +1,4 @@
-//! States that grow by forms of individuals that are one, that differ, and of pairs that are denied.
+//! States that grow by forms of individuals that are one, by lists of such that differ, and by pairs that are denied.
 
 use super::acts::Act;
 use super::{fits, in_any_order, with_each_push_refused};
@@ -88,7 +88,7 @@ const ADDITIONS: &[(&Problem, &[Act])] = &[
             Act::Run,
             Act::Serves(11),
             Act::Has(11),
-            Act::Extend(1, 0),
+            Act::Differ(1),
             Act::Serves(11),
             Act::Has(12),
             Act::Run,
@@ -99,7 +99,8 @@ const ADDITIONS: &[(&Problem, &[Act])] = &[
     (
         &DIFFERENT_MADE_SAME,
         &[
-            Act::Extend(2, 5),
+            Act::Extend(1, 5),
+            Act::Differ(1),
             Act::Run,
             Act::Serves(6),
             Act::Extend(1, 0),
@@ -183,7 +184,7 @@ fn adds<W: WorkList>(state: &mut State<W>, alloc: Global, form: Form, facts: u32
     let Ok(one) = FormList::of(alloc, &[form]) else {
         return false;
     };
-    add(state, &one, &[]).is_ok() && state.run(facts) == Ok(())
+    add(state, alloc, &one, &[]).is_ok() && state.run(facts) == Ok(())
 }
 
 /// Adds the contexts, and then each of the forms, with a run behind each.
@@ -193,7 +194,7 @@ fn adds_each<W: WorkList>(
     problem: &Problem,
     forms: &[Form],
 ) -> bool {
-    if add(state, &FormList::new(alloc), problem.roots).is_err() {
+    if add(state, alloc, &FormList::new(alloc), problem.roots).is_err() {
         return false;
     }
     for form in forms {

@@ -19,7 +19,7 @@ premises-requires-clause-there g c m there =
     let s = c.args.basis.now.saturation.now in
     let r = reason c.args.birth.now in
     let (f, at) = slice_get_there s.state.facts c.args.fact.0 c.requires.there in
-    (led_to o s c.well_formed-2.ensures c.requires.saturated c.args.fact.0 r c.requires.birth f at c.args.form c.requires.form c.args.step.now c.requires.step c.requires.facts).there m
+    (led_to o s c.well_formed-2.ensures c.requires.saturated c.args.fact.0 r c.requires.birth f at c.args.form c.requires.form c.requires.of_form c.args.step.now c.requires.step c.requires.facts).there m
     (subst (λ ns. Contains ns m) (c.rests_on-older.ensures ∙ ap (λ (v : Listing). rests_on v.entries r) c.normal-normal.ensures) there)
 
 pub premises-requires-clause-shown : goal.premises-requires-clause-shown
@@ -33,7 +33,7 @@ premises-requires-clause-below g c fs at_fs =
     let s = c.args.basis.now.saturation.now in
     let r = reason c.args.birth.now in
     let (f, at) = slice_get_there s.state.facts c.args.fact.0 c.requires.there in
-    (led_to o s c.well_formed-2.ensures c.requires.saturated c.args.fact.0 r c.requires.birth f at c.args.form c.requires.form c.args.step.now c.requires.step c.requires.facts).lift fs
+    (led_to o s c.well_formed-2.ensures c.requires.saturated c.args.fact.0 r c.requires.birth f at c.args.form c.requires.form c.requires.of_form c.args.step.now c.requires.step c.requires.facts).lift fs
     (ap (map (slice_get s.state.facts)) (sym (c.rests_on-older.ensures ∙ ap (λ (v : Listing). rests_on v.entries r) c.normal-normal.ensures)) ∙ at_fs)
 
 -- the line that the rule makes follows
@@ -43,7 +43,7 @@ leading g c =
     let s = c.args.basis.now.saturation.now in
     let r = reason c.args.birth.now in
     let f = c.fact_of-fact.result in
-    let to = (led_to o s c.well_formed-2.ensures c.requires.saturated c.args.fact.0 r c.requires.birth f c.fact_of-fact.ensures c.args.form c.requires.form c.args.step.now c.requires.step c.requires.facts).lead_to c.premises.new.derivation c.in_ok-numbers.numbers.items
+    let to = (led_to o s c.well_formed-2.ensures c.requires.saturated c.args.fact.0 r c.requires.birth f c.fact_of-fact.ensures c.args.form c.requires.form c.requires.of_form c.args.step.now c.requires.step c.requires.facts).lead_to c.premises.new.derivation c.in_ok-numbers.numbers.items
     (λ fs at. c.in_ok-numbers.ensures.shown fs (ap (map (slice_get s.state.facts)) (c.rests_on-older.ensures ∙ ap (λ (v : Listing). rests_on v.entries r) c.normal-normal.ensures) ∙ at)) in
     subst (LeadsBy o s c.premises.new.derivation c.in_ok-numbers.numbers.items f)
     (sym (c.origin_rule-rule.ensures ∙ ap (λ (v : Listing). origin_rule o (option_map origin_in (slice_get v.entries c.args.form)) c.args.step.now) c.normal-normal.ensures)) to

@@ -3,17 +3,10 @@ use Rattle.std.proofs.lemmas.Option.{slice_get_within}
 use Rattle.number_sets.specs.Pieces.{list_at}
 use Rattle.explain.specs.declared.told.Told.{Told}
 use Rattle.explain.specs.Search.{AreLeadsWithin, LeadsOver}
-use Rattle.explain.proofs.Telling.{told_no_over_between}
 use Rattle.explain.proofs.told.all_links.Goals as goal
 
 pub tell_over-requires-clause-within : goal.tell_over-requires-clause-within
 tell_over-requires-clause-within c = subst (λ k. AreLeadsWithin k (LeadsOver c.args.forms.now)) (sym c.loop-number.invariant.long) c.requires.within
-
-pub loop-number-preserved-in-Some : goal.loop-number-preserved-in-Some
-loop-number-preserved-in-Some c = record {
-  long = c.loop-number.invariant.long;
-  exact = told_no_over_between c.args.forms.now c.loop-number.number _ c.in-Some.disjoint.end c.in-Some.ensures c.loop-number.links c.loop-number.invariant.exact;
-}
 
 pub returns : goal.returns
 returns c =
@@ -23,6 +16,6 @@ returns c =
       long = ap length is ∙ before.long;
       exact = λ r t. (
         λ h. ((before.exact r t).0 (subst (λ (l : List (List Told)). Contains (list_at l r) t) is h)).1,
-        λ h. subst (λ (l : List (List Told)). Contains (list_at l r) t) (sym is) ((before.exact r t).1 (omega (arith, slice_get_within forms t.form h.0 h.1, c.loop-number-test.false, c.len.ensures), h)),
+        λ h. subst (λ (l : List (List Told)). Contains (list_at l r) t) (sym is) ((before.exact r t).1 (omega (arith, slice_get_within forms t.form h.0 h.1, c.loop-number-test.false, c.len-number-end.ensures), h)),
       );
     }

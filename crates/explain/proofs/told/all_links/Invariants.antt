@@ -1,4 +1,4 @@
-use Rattle.std.proofs.Common.{◌≡◌, ◌-◌, length}
+use Rattle.std.proofs.Common.{◌≡◌, length}
 use Rattle.explain.specs.Search.{AreToldBefore, LeadsOver}
 use Rattle.explain.proofs.told.all_links.Given as goal
 
@@ -7,6 +7,3 @@ invariant-loop-number l = record {
   long : length l.links ≡ l.individuals;
   exact : AreToldBefore (LeadsOver l.forms) l.number l.links;
 }
-
-abbrev pub decreases-loop-number : goal.decreases-loop-number
-decreases-loop-number l = length l.forms - l.number

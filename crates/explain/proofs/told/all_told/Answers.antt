@@ -4,14 +4,7 @@ use Rattle.number_sets.specs.Pieces.{list_at}
 use Rattle.normal_forms.specs.declared.forms.Form.TheVariants.{N5}
 use Rattle.explain.specs.declared.told.Told.{Told}
 use Rattle.explain.specs.Search.{as_id}
-use Rattle.explain.proofs.Telling.{told_no_up_between}
 use Rattle.explain.proofs.told.all_told.Goals as goal
-
-pub loop-number-preserved-in-Some : goal.loop-number-preserved-in-Some
-loop-number-preserved-in-Some c = record {
-  long = c.loop-number.invariant.long;
-  exact = told_no_up_between c.args.forms.now c.loop-number.number _ c.in-Some.disjoint.end c.in-Some.ensures c.loop-number.told c.loop-number.invariant.exact;
-}
 
 pub returns : goal.returns
 returns c =
@@ -21,6 +14,6 @@ returns c =
       long = ap length is ∙ before.long;
       exact = λ r t. (
         λ h. ((before.exact r t).0 (subst (λ (l : List (List Told)). Contains (list_at l r) t) is h)).1,
-        λ h. subst (λ (l : List (List Told)). Contains (list_at l r) t) (sym is) ((before.exact r t).1 (omega (arith, slice_get_within forms t.form (N5 (as_id r) (as_id t.to)) h, c.loop-number-test.false, c.len.ensures), h)),
+        λ h. subst (λ (l : List (List Told)). Contains (list_at l r) t) (sym is) ((before.exact r t).1 (omega (arith, slice_get_within forms t.form (N5 (as_id r) (as_id t.to)) h, c.loop-number-test.false, c.len-number-end.ensures), h)),
       );
     }

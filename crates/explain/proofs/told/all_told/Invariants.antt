@@ -1,4 +1,4 @@
-use Rattle.std.proofs.Common.{◌≡◌, ◌-◌, length}
+use Rattle.std.proofs.Common.{◌≡◌, length}
 use Rattle.explain.specs.Search.{AreToldBefore, LeadsUp}
 use Rattle.explain.proofs.told.all_told.Given as goal
 
@@ -7,6 +7,3 @@ invariant-loop-number l = record {
   long : length l.told ≡ l.properties;
   exact : AreToldBefore (LeadsUp l.forms) l.number l.told;
 }
-
-abbrev pub decreases-loop-number : goal.decreases-loop-number
-decreases-loop-number l = length l.forms - l.number

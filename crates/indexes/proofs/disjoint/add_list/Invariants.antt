@@ -1,10 +1,9 @@
-use Rattle.std.proofs.Common.{◌≡◌, ◌+◌, ◌++◌, drop, length}
-use Rattle.normal_forms.specs.Pairs.{disjoint_form, pairs}
-use Rattle.indexes.specs.Disjoint.{rows_of}
+use Rattle.std.proofs.Common.{◌≡◌, ◌+◌, ◌-◌, ◌≤◌, ◌++◌, drop, length}
+use Rattle.indexes.specs.Disjoint.{operands_of_list}
 use Rattle.indexes.proofs.disjoint.add_list.Given as goal
 
 abbrev pub invariant-loop-place : goal.invariant-loop-place
 invariant-loop-place l = record {
-  added : l.operands.items ++ rows_of l.row (drop l.place l.classes) ≡ l.fn.operands.items ++ rows_of l.number l.classes;
-  left : l.row + length (pairs disjoint_form (drop l.place l.classes)) ≡ l.number + length (pairs disjoint_form l.classes);
+  added : l.operands.items ++ operands_of_list l.list (drop l.place l.classes) ≡ l.fn.operands.items ++ operands_of_list l.list l.classes;
+  few : length l.operands.items + (length l.classes - l.place) ≤ 4294967295;
 }

@@ -10,7 +10,7 @@ loop-first-preserved c =
     let been = c.loop-first.invariant in
     record {
       below = omega (arith, been.below);
-      each = one_more operands c.requires.rows c.args.place c.requires.there first been.below been.each _ c.loop-first-test.true (slice_get-get_or operands (first - 1) _ (omega (arith, been.below, c.requires.there))) c.if-operands-first-gt0.true;
+      each = one_more operands c.requires.lists c.args.place c.requires.there first been.below been.each _ c.loop-first-test.true (slice_get-get_or operands (first - 1) _ (omega (arith, been.below, c.requires.there))) c.if-operands-first-gt0.true;
     }
 
 pub returns-else-operands-first-gt0 : goal.returns-else-operands-first-gt0
@@ -18,4 +18,4 @@ returns-else-operands-first-gt0 c =
     let operands = c.args.operands.now in
     let first = c.loop-first.first in
     let been = c.loop-first.invariant in
-    at_end_before operands c.requires.rows c.args.place c.requires.there first been.below been.each _ (slice_get-get_or operands (first - 1) _ (omega (arith, been.below, c.requires.there))) c.if-operands-first-gt0.false
+    at_end_before operands c.requires.lists c.args.place c.requires.there first been.below been.each _ (slice_get-get_or operands (first - 1) _ (omega (arith, been.below, c.requires.there))) c.if-operands-first-gt0.false

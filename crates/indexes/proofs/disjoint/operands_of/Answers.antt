@@ -1,11 +1,14 @@
-use Rattle.std.proofs.Common.{List, sym, subst}
-use Rattle.indexes.specs.declared.disjoint.Operand.{Operand}
-use Rattle.indexes.proofs.Rows.{AreListedTo, list_added}
+use Rattle.std.proofs.Common.{◌++◌, take, ap, sym, ◌∙◌, arith}
+use Rattle.indexes.specs.Disjoint.{operands_from, operands_of_list}
+use Rattle.indexes.proofs.Operands.{next_list}
 use Rattle.indexes.proofs.disjoint.operands_of.Goals as goal
 
-pub loop-number-preserved-in-Some : goal.loop-number-preserved-in-Some
-loop-number-preserved-in-Some c =
-    let forms = c.args.forms.now in
-    let disjoint = c.in-Some.disjoint in
-    subst (λ (operands : List Operand). AreListedTo forms operands disjoint.end) (sym c.in_ok-add_list-in-Some.ensures)
-    (list_added forms c.requires c.loop-number.operands.items c.loop-number.number c.loop-number.invariant disjoint.classes.now disjoint.end c.in-Some.ensures)
+pub loop-list-preserved : goal.loop-list-preserved
+loop-list-preserved c =
+    let lists = c.args.lists.now in
+    let n = c.loop-list.list in
+    record {
+      operands = c.in_ok-add_list.ensures.added ∙ ap (λ old. old ++ operands_of_list n c.at.result.now) c.loop-list.invariant.operands
+          ∙ ap (λ more. operands_from 0 (take n lists) ++ operands_of_list n more) c.at.ensures ∙ sym (next_list lists n (omega (arith, c.loop-list-test.true, c.len-list-end.ensures)));
+      few = c.in_ok-add_list.ensures.few;
+    }

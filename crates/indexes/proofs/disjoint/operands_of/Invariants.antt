@@ -1,9 +1,9 @@
-use Rattle.std.proofs.Common.{◌-◌, length}
-use Rattle.indexes.proofs.Rows.{AreListedTo}
+use Rattle.std.proofs.Common.{◌≡◌, ◌≤◌, length, take}
+use Rattle.indexes.specs.Disjoint.{operands_from}
 use Rattle.indexes.proofs.disjoint.operands_of.Given as goal
 
-abbrev pub invariant-loop-number : goal.invariant-loop-number
-invariant-loop-number l = AreListedTo l.forms l.operands.items l.number
-
-abbrev pub decreases-loop-number : goal.decreases-loop-number
-decreases-loop-number l = length l.forms - l.number
+abbrev pub invariant-loop-list : goal.invariant-loop-list
+invariant-loop-list l = record {
+  operands : l.operands.items ≡ operands_from 0 (take l.list l.lists);
+  few : length l.operands.items ≤ 4294967295;
+}

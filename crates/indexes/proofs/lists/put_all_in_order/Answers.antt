@@ -1,4 +1,4 @@
-use Rattle.std.proofs.Common.{◌≡◌, ◌-◌, ◌+◌, arith}
+use Rattle.std.proofs.Common.{◌-◌, arith}
 use Rattle.indexes.proofs.Order.{all_in_order, in_order_more, none_in_order}
 use Rattle.indexes.proofs.lists.put_all_in_order.Goals as goal
 

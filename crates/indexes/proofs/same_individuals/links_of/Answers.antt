@@ -1,12 +1,8 @@
 use Rattle.std.proofs.Common.{sym, ◌∙◌}
 use Rattle.normal_forms.proofs.Filters.{next_kept, next_left_out}
-use Rattle.indexes.proofs.Grouping.{links_past}
 use Rattle.indexes.specs.Groups.{is_link}
 use Rattle.indexes.proofs.same_individuals.links_of.Goals.{then-makes_one+in_ok-push, else-makes_one}
 use Rattle.indexes.proofs.same_individuals.links_of.Goals as goal
-
-pub loop-number-preserved-in-Some : goal.loop-number-preserved-in-Some
-loop-number-preserved-in-Some c = c.loop-number.invariant ∙ links_past c.in-Some.ensures
 
 pub loop-number-preserved : goal.loop-number-preserved
 loop-number-preserved c =

@@ -7,4 +7,4 @@ returns-in-In c = λ n form f at gives. (c.alone.ensures n).1 (form, at, rw c.in
 pub returns-in-Edge : goal.returns-in-Edge
 returns-in-Edge c = λ n form f at gives.
     let w = rw c.in-Edge.is at (for_one c.args.problem.now form c.args.first f gives) in
-    c.denied_between.ensures w.0 w.1 n w.2 w.3 (form, at, w.4) (form, at, w.5)
+    (c.denied_between.ensures n).1 (rw (w.2, w.3) ((form, at, w.4), (form, at, w.5)))

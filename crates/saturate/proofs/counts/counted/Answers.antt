@@ -1,12 +1,6 @@
 use Rattle.std.proofs.Common.{arith}
-use Rattle.saturate.proofs.Naming.{one_form_more, pairs_more, all_have_names}
+use Rattle.saturate.proofs.Naming.{one_form_more, all_have_names}
 use Rattle.saturate.proofs.counts.counted.Goals as goal
-
-pub loop-number-preserved-in-Some : goal.loop-number-preserved-in-Some
-loop-number-preserved-in-Some c = record {
-  small = c.loop-number.invariant.small;
-  has = pairs_more c.loop-number.counts c.in-Some.ensures c.loop-number.invariant.has;
-}
 
 pub loop-number-preserved : goal.loop-number-preserved
 loop-number-preserved c = record {
@@ -15,4 +9,4 @@ loop-number-preserved c = record {
 }
 
 pub returns-clause-has : goal.returns-clause-has
-returns-clause-has c = all_have_names _ c.args.forms.now c.loop-number.number (omega (arith, c.loop-number-test.false, c.len.ensures)) c.loop-number.invariant.has
+returns-clause-has c = all_have_names _ c.args.forms.now c.loop-number.number (omega (arith, c.loop-number-test.false, c.len-number-end.ensures)) c.loop-number.invariant.has

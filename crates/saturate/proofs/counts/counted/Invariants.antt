@@ -1,4 +1,3 @@
-use Rattle.std.proofs.Common.{◌-◌, length}
 use Rattle.saturate.specs.Counts.{HasNamesBelow, IsSmall}
 use Rattle.saturate.proofs.counts.counted.Given as goal
 
@@ -7,6 +6,3 @@ invariant-loop-number l = record {
   small : IsSmall l.counts;
   has : HasNamesBelow l.counts l.forms l.number;
 }
-
-abbrev pub decreases-loop-number : goal.decreases-loop-number
-decreases-loop-number l = length l.forms - l.number

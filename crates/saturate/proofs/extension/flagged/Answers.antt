@@ -18,7 +18,7 @@ loop-fact-preserved c =
     record {
       many = omega (arith, ap length c.push_reserved.ensures.items, length-append flags (flag ∷ []), c.loop-fact.invariant.many);
       room = omega (arith, c.push_reserved.ensures.capacity, c.loop-fact.invariant.room);
-      each = λ n low. rw c.push_reserved.ensures.items (flag_more (IsAsked all c.args.added.now.forms) c.args.facts.now.facts flags flag c.loop-fact.fact-index _ c.loop-fact.invariant.many
+      each = λ n low. rw c.push_reserved.ensures.items (flag_more (IsAsked all c.args.added.now) c.args.facts.now.facts flags flag c.loop-fact.fact-index _ c.loop-fact.invariant.many
           (read c.args.facts.now.facts c.as_slice-fact-items.result.now c.loop-fact.fact-index _ c.as_slice-fact-items.ensures.value c.loop-fact-test.true)
           c.loop-fact.invariant.each (λ e. rw (c.get.ensures, c.fact-item.is) at c.asks_for.ensures.yes e all c.closure-closure.ensures) (λ e. rw (c.get.ensures, c.fact-item.is) at c.asks_for.ensures.no e all c.closure-closure.ensures) n low);
     }

@@ -7,5 +7,5 @@ abbrev pub invariant-loop-fact : goal.invariant-loop-fact
 invariant-loop-fact l = record {
   many : length l.flags.items ≡ l.fact-index;
   room : length l.facts.facts ≤ l.flags.cap;
-  each : (n : ℕ) → n < l.fact-index → IsFlagged (IsAsked l.ground.forms l.added.forms) l.facts.facts l.flags.items n;
+  each : (n : ℕ) → n < l.fact-index → IsFlagged (IsAsked l.ground.forms l.added) l.facts.facts l.flags.items n;
 }

@@ -1,20 +1,25 @@
-use Rattle.std.proofs.Common.{arith}
-use Rattle.saturate.proofs.NewForms.{ask_as_new, asked_more, new_still, one_from, pairs_from}
+use Rattle.std.proofs.Common.{arith, inr}
+use Rattle.saturate.proofs.NewForms.{ask_as_new, listed_more, new_pushed, pushed_listed}
 use Rattle.saturate.proofs.new_forms.new_forms.Goals as goal
-
-pub loop-number-preserved-in-Some : goal.loop-number-preserved-in-Some
-loop-number-preserved-in-Some c = record {
-  each = new_still c.in_ok-add_pairs.ensures (pairs_from c.in-Some.ensures) c.loop-number.invariant.each;
-  asked = asked_more c.in_ok-add_pairs.ensures (pairs_from c.in-Some.ensures) c.loop-number.invariant.asked;
-}
+use Rattle.saturate.proofs.new_forms.new_forms.Goals.{then-may_ask_anew+in_ok-push, else-may_ask_anew}
 
 pub loop-number-preserved : goal.loop-number-preserved
 loop-number-preserved c =
-    let here = one_from c.args.forms.now c.loop-number.number c.at.result c.at.ensures in
-    record {
-      each = new_still c.in_ok-add_form.ensures here c.loop-number.invariant.each;
-      asked = asked_more c.in_ok-add_form.ensures here c.loop-number.invariant.asked;
-    }
+    let before = c.args.earlier.now.forms in
+    let now = c.args.forms.now in
+    let new = c.loop-number.new in
+    let i = c.loop-number.number in
+    let form = c.at-form.result in
+    elim c.if-may_ask_anew.branch [
+      | then-may_ask_anew+in_ok-push w ↦ rw w.new-is (rw w.in_ok-push.ensures.ok (record {
+        each = new_pushed before now i form new c.at-form.ensures (c.may_ask_anew.ensures.yes w.if-may_ask_anew.true) c.loop-number.invariant.each;
+        listed = pushed_listed before now c.args.from i form new c.at-form.ensures c.loop-number.invariant.listed;
+      }))
+      | else-may_ask_anew w ↦ rw w.new-is (record {
+        each = c.loop-number.invariant.each;
+        listed = listed_more before now c.args.from i form new new c.at-form.ensures c.loop-number.invariant.listed (λ f there. there) (λ is_new. inr (c.may_ask_anew.ensures.no w.if-may_ask_anew.false is_new.1));
+      })
+    ]
 
 pub returns : goal.returns
-returns c = ask_as_new c.args.earlier.now.forms c.args.forms.now c.loop-number.new c.args.from c.loop-number.number c.requires (omega (arith, c.loop-number-test.false, c.len.ensures)) c.loop-number.invariant.each c.loop-number.invariant.asked
+returns c = ask_as_new c.args.earlier.now.forms c.args.forms.now c.loop-number.new c.args.from c.loop-number.number c.requires (omega (arith, c.loop-number-test.false, c.len-number-end.ensures)) c.loop-number.invariant.each c.loop-number.invariant.listed

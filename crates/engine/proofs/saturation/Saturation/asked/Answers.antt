@@ -12,7 +12,7 @@ use Rattle.normalise.proofs.Adding.{keeps_long}
 use Rattle.saturate.specs.Growth.{HasGrown}
 use Rattle.engine.specs.Saturations.{IsSound, Saturated}
 use Rattle.engine.proofs.NothingNew.{as_many_served, still_finished}
-use Rattle.engine.proofs.GrownSaturations.{asked_sound, old_first}
+use Rattle.engine.proofs.GrownSaturations.{asked_sound, old_first, old_lists_first}
 use Rattle.engine.proofs.saturation.Saturation.asked.Goals as goal
 
 pub grown_with-requires : goal.grown_with-requires
@@ -24,6 +24,13 @@ grown-requires-clause-forms c =
     let sound : IsSound c.args.old.now old = subst (IsSound c.args.old.now) (sym c.self.view_is) c.requires.sound in
     let kept : Grown c.self.inside.normal c.share-normal.result = rw c.share-normal.ensures c.in_ok-grown_with.ensures.kept in
     rw (c.len-from.ensures ∙ ap length c.forms.ensures) (rw c.forms-2.ensures (old_first c.args.old.now old c.share-normal.result sound kept))
+
+pub grown-requires-clause-lists : goal.grown-requires-clause-lists
+grown-requires-clause-lists c =
+    let old : Saturated = record { normal = c.self.inside.normal; state = c.self.inside.state.seen; can_grow = c.self.inside.state.can_grow } in
+    let sound : IsSound c.args.old.now old = subst (IsSound c.args.old.now) (sym c.self.view_is) c.requires.sound in
+    let kept : Grown c.self.inside.normal c.share-normal.result = rw c.share-normal.ensures c.in_ok-grown_with.ensures.kept in
+    rw c.apart.ensures (old_lists_first c.args.old.now old c.share-normal.result sound kept)
 
 pub returns-clause-sound : goal.returns-clause-sound
 returns-clause-sound c =
@@ -37,8 +44,8 @@ returns-clause-sound c =
     let numbers : Numbers c.self.inside.normal.asked c.args.expr.0 v.asked n = rw c.share-normal.ensures c.in_ok-grown_with.ensures.asked.1 in
     let count : c.len-from.result ≡ length (map form_in c.self.inside.normal.entries) = c.len-from.ensures ∙ ap length c.forms.ensures in
     let roots = c.in_ok-roots.roots.items in
-    let has : HasGrown (drop (length (map form_in c.self.inside.normal.entries)) (map form_in v.entries)) (roots ++ contexts.Expr c.args.expr ∷ []) c.self.inside.state.seen c.in_ok-state.state.seen =
-    rw (← count) (rw (← c.forms-2.ensures) (rw (← c.in_ok-push.ensures.items) (rw (← c.deref.ensures.value) c.in_ok-state.ensures.grown))) in
+    let has : HasGrown (drop (length (map form_in c.self.inside.normal.entries)) (map form_in v.entries)) v.apart (roots ++ contexts.Expr c.args.expr ∷ []) c.self.inside.state.seen c.in_ok-state.state.seen =
+    rw (← count) (rw (← c.forms-2.ensures) (rw (← c.apart.ensures) (rw (← c.in_ok-push.ensures.items) (rw (← c.deref.ensures.value) c.in_ok-state.ensures.grown)))) in
     let classes = length c.classes.result.now in let individuals = length c.individuals.result.now in
     let names : HasMoreNames o p classes individuals = record { nodes = c.requires.grows.nodes; names = c.requires.names; new_classes = c.classes.ensures.count; new_individuals = c.individuals.ensures.count } in
     asked_sound o p c.well_formed-2.ensures old v c.in_ok-state.state.seen c.in_ok-state.state.can_grow classes individuals roots sound normal kept names c.in_ok-roots.ensures.again c.in_ok-state.ensures.state

@@ -1,4 +1,4 @@
-use Rattle.std.proofs.Common.{ℕ, ◌≤◌, ◌^◌, List, length, sym, subst, arith}
+use Rattle.std.proofs.Common.{ℕ, ◌^◌, List, sym, subst, arith}
 use Rattle.normal_forms.specs.declared.forms.Form.{Form}
 use Rattle.explain.specs.Search.{AreAllReached, AreLeadsWithin, AreTold, LeadsUp}
 use Rattle.explain.proofs.WalkingUp.{leads_within}

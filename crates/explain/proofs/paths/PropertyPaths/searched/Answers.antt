@@ -1,5 +1,4 @@
-use Rattle.std.proofs.Common.{◌≡◌, List, length, refl, sym, subst, arith}
-use Rattle.explain.specs.declared.reached.Reached.{Reached}
+use Rattle.std.proofs.Common.{length, sym, subst, arith}
 use Rattle.explain.specs.Search.{AreReached, LeadsUp}
 use Rattle.explain.proofs.Reaching.{bounded, reached}
 use Rattle.explain.proofs.WalkingUp.{beyond, earlier, way_is}

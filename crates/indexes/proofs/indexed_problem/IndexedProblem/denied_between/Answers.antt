@@ -7,4 +7,4 @@ with_second-requires c = rw (c.of-listed.ensures) (c.self.invariant.index.denied
 
 pub returns : goal.returns
 returns c = λ n. rw (← c.self.view_is)
-    (denied_found _ c.self.inside.index.denied (Whole c.args.source.0) (Whole c.args.target.0) c.of-listed.result.now _ c.of-listed.ensures c.self.invariant.index.denied c.with_second.ensures n)
+    (denied_found _ c.self.inside.index.denied (Whole c.args.source.0) (Whole c.args.target.0) c.of-listed.result.now _ c.of-listed.ensures c.self.invariant.index.listed.denied c.with_second.ensures n)

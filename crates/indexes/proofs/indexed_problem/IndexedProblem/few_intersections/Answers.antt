@@ -1,22 +1,17 @@
-use Rattle.indexes.proofs.Parting.{all_said, first_found, only_first, only_second, second_found}
+use Rattle.std.proofs.Common.{ap, ◌∙◌}
+use Rattle.facts.specs.Closure.{Problem}
+use Rattle.indexes.specs.Disjoint.{operands_from}
+use Rattle.indexes.specs.Keys.{by_first, by_second}
+use Rattle.indexes.proofs.Indexing.{under}
+use Rattle.indexes.proofs.Parting.{apart_when}
 use Rattle.indexes.proofs.indexed_problem.IndexedProblem.few_intersections.Goals as goal
 
 pub returns-clause-first : goal.returns-clause-first
-returns-clause-first c = rw (← c.self.view_is)
-    (first_found _ _ c.self.invariant.rows c.self.invariant.pairs c.self.inside.index.first _ _ c.of-first.ensures _ c.key_of_class-key.ensures c.self.invariant.index.first)
-
-pub returns-clause-only_first : goal.returns-clause-only_first
-returns-clause-only_first c = rw (← c.self.view_is)
-    (only_first _ _ c.self.invariant.rows c.self.invariant.pairs c.self.inside.index.first _ _ c.of-first.ensures _ c.key_of_class-key.ensures c.self.invariant.index.first)
+returns-clause-first c = λ n. rw (← c.self.view_is, ← c.key_of_class-key.ensures) (under _ by_first c.self.inside.index.first _ _ c.of-first.ensures c.self.invariant.index.listed.first n)
 
 pub returns-clause-second : goal.returns-clause-second
-returns-clause-second c = rw (← c.self.view_is)
-    (second_found _ _ c.self.invariant.rows c.self.invariant.pairs c.self.inside.index.second _ _ c.of-second.ensures _ c.key_of_class-key.ensures c.self.invariant.index.second)
-
-pub returns-clause-only_second : goal.returns-clause-only_second
-returns-clause-only_second c = rw (← c.self.view_is)
-    (only_second _ _ c.self.invariant.rows c.self.invariant.pairs c.self.inside.index.second _ _ c.of-second.ensures _ c.key_of_class-key.ensures c.self.invariant.index.second)
+returns-clause-second c = λ n. rw (← c.self.view_is, ← c.key_of_class-key.ensures) (under _ by_second c.self.inside.index.second _ _ c.of-second.ensures c.self.invariant.index.listed.second n)
 
 pub returns-clause-apart : goal.returns-clause-apart
-returns-clause-apart c = λ b. rw (← c.self.view_is)
-    (all_said _ _ c.self.invariant.rows c.self.invariant.pairs _ _ b c.key_of_class-key.ensures)
+returns-clause-apart c = λ b. rw (c.key_of_class-key.ensures)
+    (apart_when c.args.self.now c.self.inside.disjoint (c.self.invariant.listed ∙ ap (λ (p : Problem). operands_from 0 p.apart.classes) c.self.view_is) c.args.class b)

@@ -6,5 +6,5 @@ use Rattle.indexes.proofs.indexed_problem.IndexedProblem.fillers_end.Goals as go
 pub returns : goal.returns
 returns c = λ e n. rw (← c.self.view_is) (λ under. ⊎_elim
     (λ low. low)
-    (λ ge. absurd (Contains-none n (subst (λ (list : List ℕ). Contains list n) (c.end.ensures e.0 ge) ((c.self.invariant.index.fillers _ n).1 under))))
+    (λ ge. absurd (Contains-none n (subst (λ (list : List ℕ). Contains list n) (c.end.ensures e.0 ge) ((c.self.invariant.index.listed.fillers _ n).1 under))))
     (cases_lt e.0 c.end.result))

@@ -1,4 +1,4 @@
 use Rattle.indexes.proofs.indexed_problem.IndexedProblem.given.Goals as goal
 
 pub returns : goal.returns
-returns c = λ n. rw (← c.self.view_is, c.of.ensures) (c.self.invariant.index.kinds _ n)
+returns c = λ n. rw (← c.self.view_is, c.of.ensures) (c.self.invariant.index.listed.kinds _ n)

@@ -12,7 +12,7 @@ turned false = (λ e. grind arith, λ e. grind arith)
 
 pub returns : goal.returns
 returns c = subst (λ (p : Problem). (not c.is_empty.result ≡ false) ↔ ((k : Key) (n : ℕ) → IsUnder by_linked_first p.forms k n → ⊥)) c.self.view_is
-    (let lists = unlisted by_linked_first _ c.self.inside.index.linked_first c.self.invariant.index.linked_first in (
+    (let lists = unlisted by_linked_first _ c.self.inside.index.linked_first c.self.invariant.index.listed.linked_first in (
       λ e. lists.0 (c.is_empty.ensures.0 ((turned c.is_empty.result).0 e)),
       λ none. (turned c.is_empty.result).1 (c.is_empty.ensures.1 (lists.1 none)),
     ))

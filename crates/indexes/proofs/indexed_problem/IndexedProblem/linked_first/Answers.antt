@@ -1,4 +1,4 @@
 use Rattle.indexes.proofs.indexed_problem.IndexedProblem.linked_first.Goals as goal
 
 pub returns : goal.returns
-returns c = λ n. rw (← c.self.view_is, c.of.ensures) (c.self.invariant.index.linked_first _ n)
+returns c = λ n. rw (← c.self.view_is, c.of.ensures) (c.self.invariant.index.listed.linked_first _ n)

@@ -1,4 +1,4 @@
 use Rattle.indexes.proofs.indexed_problem.IndexedProblem.plain_from.Goals as goal
 
 pub returns : goal.returns
-returns c = λ n. rw (← c.self.view_is, c.of.ensures, c.key_of_property.ensures) (c.self.invariant.index.plain _ n)
+returns c = λ n. rw (← c.self.view_is, c.of.ensures, c.key_of_property.ensures) (c.self.invariant.index.listed.plain _ n)

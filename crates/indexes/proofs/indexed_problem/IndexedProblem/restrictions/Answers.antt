@@ -6,4 +6,4 @@ with_second-requires c = rw (c.of-listed.ensures) (c.self.invariant.index.filler
 
 pub returns : goal.returns
 returns c = λ n. rw (← c.self.view_is, ← c.key_of_class.ensures, ← c.key_of_property.ensures)
-    (restrictions_found _ c.self.inside.index.fillers _ _ c.of-listed.result.now _ c.of-listed.ensures c.self.invariant.index.fillers c.with_second.ensures n)
+    (restrictions_found _ c.self.inside.index.fillers _ _ c.of-listed.result.now _ c.of-listed.ensures c.self.invariant.index.listed.fillers c.with_second.ensures n)

@@ -1,4 +1,4 @@
 use Rattle.indexes.proofs.indexed_problem.IndexedProblem.with_filler.Goals as goal
 
 pub returns : goal.returns
-returns c = λ n. rw (← c.self.view_is, c.of.ensures, c.key_of_class.ensures) (c.self.invariant.index.fillers _ n)
+returns c = λ n. rw (← c.self.view_is, c.of.ensures, c.key_of_class.ensures) (c.self.invariant.index.listed.fillers _ n)

@@ -23,4 +23,4 @@ returns c =
     let t = grows_trans c.draw.ensures.grows s in
     draws (grows_trans c.loop-number.invariant.grows t) (drawn k [] c.draw_different.new.facts (λ form f owed. owed) (concluded_still s [] c.in_ok-draw.ensures.drawn)
     (λ x there. entered_still t x (each (λ y. IsEntered k y c.loop-number.facts) k.roots c.roots-roots.result.now c.loop-number.number c.roots-roots.ensures c.loop-number-test.false c.loop-number.invariant.entered x there))
-    (λ g e. absurd (cc)) (λ e. c.in_ok-draw_different.ensures.drawn))
+    (λ g e. absurd (cc)) (λ e. c.in_ok-draw_different.ensures.drawn) (λ g h e. absurd (cc)))

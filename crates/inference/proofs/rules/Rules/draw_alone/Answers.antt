@@ -33,7 +33,7 @@ returns-in_ok-enter-in-Edge c =
       given = drawn k (c.args.fact ∷ []) new (λ form f owed. owed) (concluded_still t (c.args.fact ∷ []) c.in_ok-draw.ensures.drawn)
           (λ x target. subst (λ (y : Context). IsEntered k y new) (rw c.in-Edge.is at target) c.in_ok-enter-in-Edge.ensures.drawn)
           (λ g e. one_in_hand (λ f. IsHandedOn k f new.facts) c.args.fact g e (all_still s (λ form f. HandsOn form c.args.fact f) k.forms c.in_ok-hand_on.ensures.drawn))
-          (λ e. absurd (cc));
+          (λ e. absurd (cc)) (λ g h e. absurd (cc));
       loops = λ x entry. absurd (edge_is_no_entry x c.args.hand c.args.fact c.requires.hand (λ y is. let edge = c.in-Edge.is in cc) entry);
     })
 
@@ -47,6 +47,6 @@ returns-in_ok-draw_owed_loops-in-In c =
       given = drawn k (c.args.fact ∷ []) new (λ form f owed. owed) (concluded_still t (c.args.fact ∷ []) c.in_ok-draw.ensures.drawn)
           (λ x target. absurd (rw c.in-In.is at target))
           (λ g e. one_in_hand (λ f. IsHandedOn k f new.facts) c.args.fact g e (all_still s (λ form f. HandsOn form c.args.fact f) k.forms c.in_ok-hand_on.ensures.drawn))
-          (λ e. absurd (cc));
+          (λ e. absurd (cc)) (λ g h e. absurd (cc));
       loops = λ x entry. c.in_ok-draw_owed_loops-in-In.ensures.drawn x (entry_still (grows_trans c.draw.ensures.grows c.hand_on.ensures.grows) x c.args.hand entry);
     })

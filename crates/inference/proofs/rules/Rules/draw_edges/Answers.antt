@@ -1,5 +1,5 @@
-use Rattle.std.proofs.Common.{[], ◌∷◌, refl}
-use Rattle.inference.specs.Visits.{IsBy}
+use Rattle.std.proofs.Common.{refl, subst}
+use Rattle.inference.specs.Visits.{IsBy, IsEdge}
 use Rattle.inference.proofs.Drawing.{drawn_by_two, draws}
 use Rattle.inference.proofs.Edges.{property_there}
 use Rattle.inference.proofs.Visiting.{edges_drawn}
@@ -21,4 +21,4 @@ returns-in_ok-draw_chains c =
     let facts = c.draw_chains.new.facts.facts in
     let by : IsBy c.in-Edge-Edge.first c.args.f = rw c.in-Edge-Edge.is-0 refl in
     draws c.draw_chains.ensures.grows (drawn_by_two k c.args.f c.args.g facts (edges_drawn k c.args.f c.args.g c.in-Edge-Edge.first facts by c.requires.other
-    c.in_ok-draw_chains.ensures.drawn))
+    c.in_ok-draw_chains.ensures.drawn) (λ l a b x w e _. absurd (subst IsEdge e c.requires.edge)))

@@ -1,5 +1,11 @@
-use Rattle.inference.proofs.Drawing.{drawn_by_two, draws}
+use Rattle.std.proofs.Common.{[], ◌∷◌}
+use Rattle.inference.proofs.Growth.{grows_trans}
+use Rattle.inference.proofs.Drawing.{concluded_still, drawn_by_two, draws}
 use Rattle.inference.proofs.rules.Rules.draw_two.Goals as goal
 
 pub returns : goal.returns
-returns c = draws c.draw.ensures.grows (drawn_by_two c.args.self.now.problem.now c.args.f c.args.g c.draw.new.facts.facts c.in_ok-draw.ensures.drawn)
+returns c =
+    let f = c.args.f in
+    let g = c.args.g in
+    draws (grows_trans c.draw.ensures.grows c.draw_disjoint.ensures.grows)
+    (drawn_by_two c.args.self.now.problem.now f g c.draw_disjoint.new.facts.facts (concluded_still c.draw_disjoint.ensures.grows (f ∷ g ∷ []) c.in_ok-draw.ensures.drawn) c.in_ok-draw_disjoint.ensures.drawn)

@@ -1,15 +1,14 @@
-use Rattle.std.proofs.Common.{◌∷◌, [], ◌++◌, ap, ap₂, ◌∙◌, refl}
-use Rattle.normalise.specs.Entries.{paired, spread}
-use Rattle.normalise.proofs.Pairing.{as_many_joined, paired_push, spread_one}
+use Rattle.std.proofs.Common.{map, ◌∷◌, [], ◌++◌, ap, ap₂, ◌∙◌}
+use Rattle.normal_forms.specs.StoredForms.{origin_of}
+use Rattle.normalise.specs.Entries.{paired}
+use Rattle.normalise.proofs.Pairing.{as_many, origins_push, paired_push}
 use Rattle.normalise.proofs.entries.Entries.push.Goals as goal
 
-pub invariant_of-self-in-Ok : goal.invariant_of-self-in-Ok
-invariant_of-self-in-Ok c =
-    as_many_joined _ _ _ _ _ _ c.in-Ok.ensures.ok (ap spread c.in_ok-push.ensures.ok ∙ spread_one c.self.inside.origins c.in-Some.origin c.args.entry.origin c.in-Some.ensures.some) c.self.invariant refl
-
-pub returns-in-Ok-clause-ok : goal.returns-in-Ok-clause-ok
-returns-in-Ok-clause-ok c =
+pub returns-clause-ok : goal.returns-clause-ok
+returns-clause-ok c =
     let forms = c.self.inside.forms in
-    let origins = c.self.inside.origins in
-    ap₂ paired c.in-Ok.ensures.ok (ap spread c.in_ok-push.ensures.ok ∙ spread_one origins c.in-Some.origin c.args.entry.origin c.in-Some.ensures.some)
-    ∙ paired_push forms (spread origins) c.args.entry.form c.args.entry.origin c.self.invariant ∙ ap (λ xs. xs ++ c.args.entry ∷ []) c.self.view_is
+    let origins = c.self.inside.origins.items in
+    ap₂ paired c.in_ok-push.ensures.ok
+    (ap (map origin_of) (c.push_reserved.ensures.items ∙ ap (λ xs. xs ++ c.in-Some.origin ∷ []) c.reserve.ensures.items)
+    ∙ origins_push origins c.in-Some.origin c.args.entry.origin c.in-Some.ensures.some)
+    ∙ paired_push forms (map origin_of origins) c.args.entry.form c.args.entry.origin (as_many forms origins c.self.invariant) ∙ ap (λ xs. xs ++ c.args.entry ∷ []) c.self.view_is

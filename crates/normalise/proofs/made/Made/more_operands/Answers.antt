@@ -17,5 +17,5 @@ longer-requires-clause-shorter c =
 pub returns : goal.returns
 returns c =
     let list = expr_numbers c.args.operands.now in let long = length-map c.args.operands.now (λ e. e.0) in
-    more_numbered c.args.self.now _ list c.args.whole.0 c.args.k c.in_ok-number.number c.requires.first (omega arith) refl refl
+    more_numbered c.args.self.now _ list c.args.whole.0 c.args.k c.in_ok-number.number c.requires.first (omega arith) refl refl refl
     (subst (λ xs. Numbers c.args.self.now.operands xs c.longer.new.self c.in_ok-number.number) (map-take (λ e. e.0) (c.args.k + 1) c.args.operands.now) c.in_ok-number.ensures.ok)

@@ -17,5 +17,5 @@ longer-requires-clause-shorter c =
 pub returns : goal.returns
 returns c =
     let list = prop_numbers c.args.steps.now in let long = length-map c.args.steps.now (λ e. e.0) in
-    steps_numbered c.args.self.now _ list c.args.whole.0 c.args.k c.in_ok-number.number c.requires.first (omega arith) refl refl
+    steps_numbered c.args.self.now _ list c.args.whole.0 c.args.k c.in_ok-number.number c.requires.first (omega arith) refl refl refl
     (subst (λ xs. Numbers c.args.self.now.steps xs c.longer.new.self c.in_ok-number.number) (map-take (λ e. e.0) (c.args.k + 1) c.args.steps.now) c.in_ok-number.ensures.ok)

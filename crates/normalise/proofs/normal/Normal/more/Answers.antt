@@ -33,7 +33,7 @@ returns-clause-forms c = λ more o n w.
     (fresh_at _ _ _ _ fl c.deref-5.ensures.value (c.deref-6.ensures.value ∙ ap (λ (v : Listing). v.left) c.self.view_is) c.in_ok-fresh_left.ensures)
     many (sym (length-map c.axioms.result.now axiom_of) ∙ ap length c.axioms.ensures)
     c.in_ok-made.made c.state_all.new.self c.express_all.new.self
-    c.in_ok-made.ensures.entries (c.in_ok-made.ensures.operands ∙ ap (λ (v : Listing). v.operands) c.self.view_is) (c.in_ok-made.ensures.steps ∙ ap (λ (v : Listing). v.steps) c.self.view_is)
+    c.in_ok-made.ensures.entries c.in_ok-made.ensures.apart (c.in_ok-made.ensures.operands ∙ ap (λ (v : Listing). v.operands) c.self.view_is) (c.in_ok-made.ensures.steps ∙ ap (λ (v : Listing). v.steps) c.self.view_is)
     (subst (λ xs. Adds c.in_ok-made.made c.state_all.new.self (StatedFrom xs c.args.from many)) c.axioms.ensures c.in_ok-state_all.ensures.forms)
     (subst (λ xs. NameChains (take c.args.from xs) c.in_ok-made.made.steps → NameChains xs c.state_all.new.self.steps) c.axioms.ensures c.in_ok-state_all.ensures.names)
     (express_at _ _ p.nodes _ _ _ _ c.deref-7.ensures.value c.deref-8.ensures.value c.in_ok-express_all.ensures)

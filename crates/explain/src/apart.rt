@@ -1,0 +1,149 @@
+//! What lists of what is apart led to.
+ghost use Rattle.axioms.specs.declared.ids.IndId.{IndId as Ind};
+ghost use Rattle.cert_check.specs.Derivation.{IsDerivation};
+ghost use Rattle.engine.specs.Saturations.{IsSaturated};
+ghost use Rattle.explain.specs.LinesOfFacts.{Lengthens, ShowsFact};
+ghost use Rattle.explain.specs.OlderFacts.{AreOlderShown};
+ghost use Rattle.explain.specs.Paths.{IsChain};
+ghost use Rattle.explain.specs.Uses.{EachIsUsed, IsAmong, IsBornBy, Uses};
+ghost use Rattle.facts.specs.Births.{reason};
+ghost use Rattle.facts.specs.Closure.{AreSame};
+ghost use Rattle.facts.specs.declared.contexts.Context.TheVariants.{Individual};
+ghost use Rattle.facts.specs.declared.contexts.Fact.TheVariants.{In};
+ghost use Rattle.normal_forms.specs.Apart.{AreListedAt};
+ghost use Rattle.normal_forms.specs.Forms.{AtOrderedPlaces};
+ghost use Rattle.normal_forms.specs.declared.forms.Class2.{Class2};
+ghost use Rattle.std.specs.Prelude.{◌↔◌, ◌≡◌, ◌<◌, [], Contains, IfOk, MatchOption, OnOk, Some, length, slice_get};
+
+use crate::basis::Basis;
+use crate::between::chain_to_one;
+use crate::derivation::Derivation;
+use crate::line::{concluded, fact_of};
+use crate::lines_by_fact::{LineNumbers, LinesByFact};
+use crate::same::same_along;
+use crate::sink::LineSink;
+use axioms::{IndId, Memory};
+use certificate::Rule;
+use facts::{Birth, Context, Fact, FactId, Older};
+use smallvec::SmallVec;
+
+/// What two classes led to that have nothing in common: adds the line of the fact, and gives its number. `list` is the number of a list
+/// that has the two.
+///
+/// # Errors
+///
+/// `Memory` where memory was refused.
+pub(crate) fn shown_by_disjoint<L: LineSink>(
+    basis: &Basis<'_>,
+    derivation: &mut Derivation<L>,
+    shown: &LinesByFact,
+    fact: FactId,
+    birth: &Birth,
+    list: u32,
+) -> Result<LineNumbers, Memory>
+    requires saturated { IsSaturated basis.now.ontology.now basis.now.saturation.now }
+    requires there { fact.0 < length basis.now.saturation.now.state.facts }
+    requires derivation { IsDerivation basis.now.ontology.now derivation.old }
+    requires older { AreOlderShown basis.now.saturation.now derivation.old shown.now fact.0 }
+    requires birth { slice_get basis.now.saturation.now.state.births fact.0 ≡ Some (reason birth.now) }
+    requires list { (reason birth.now).form ≡ Some list }
+    requires disjoint { (reason birth.now).condition ≡ 14 }
+    ensures derivation { OnOk result (IsDerivation basis.now.ontology.now derivation.new) }
+    ensures longer { OnOk result (Lengthens derivation.old derivation.new) }
+    ensures shown { IfOk result (λ numbers. ShowsFact basis.now.saturation.now derivation.new fact.0 numbers.items) }
+    ensures used { IfOk result (λ numbers. EachIsUsed basis.now.saturation.now shown.now fact.0 derivation.old derivation.new numbers.items) }
+{
+    basis.ontology.well_formed();
+    let Older::Two(first, second) = birth.older() else {
+        // Two facts are taken.
+        unreachable!()
+    };
+    let mut numbers = shown.at(basis.alloc, first.0 as usize)?;
+    let more = shown.at(basis.alloc, second.0 as usize)?;
+    numbers.extend_from_slice(more.as_slice())?;
+    let fact = fact_of(basis.saturation, fact);
+    let axiom = basis.saturation.normal().disjoint_axiom(list as usize);
+    let numbers = concluded(basis.alloc, derivation, fact, Rule::K7, axiom, numbers)?;
+    Ok(numbers)
+}
+
+// The members of the list behind the individual.
+fn behind(members: &[IndId], individual: IndId) -> &[IndId]
+    ensures { (other : Ind) → Contains result.now other ↔ AtOrderedPlaces members.now individual other }
+{
+    for place in 0..members.len() {
+        if members[place] == individual {
+            return &members[place + 1..];
+        }
+    }
+    &[]
+}
+
+// The numbers of forms that make the individual one with another that stands behind it in the list of that number, the first that is one
+// with it; `None` where none is.
+fn chain_to_another(
+    basis: &Basis<'_>,
+    list: u32,
+    individual: IndId,
+) -> Result<Option<Vec<u32>>, Memory>
+    requires saturated { IsSaturated basis.now.ontology.now basis.now.saturation.now }
+    requires there { individual.0 < length basis.now.ontology.now.names.individuals }
+    ensures { IfOk result (λ found. MatchOption found ((other : Ind) → AreListedAt basis.now.saturation.now.normal.apart.individuals list individual other → AreSame basis.now.saturation.now.state.problem.forms individual other → ⊥) (λ v. (other : Ind) × AreListedAt basis.now.saturation.now.normal.apart.individuals list individual other × IsChain basis.now.saturation.now.state.problem.forms individual v.items other)) }
+{
+    basis.ontology.well_formed();
+    basis.ontology.bounded();
+    let normal = basis.saturation.normal();
+    let others = behind(normal.apart().individuals.at(list as usize), individual);
+    let individuals = basis.ontology.individuals().len();
+    chain_to_one(basis.alloc, individuals, normal.forms(), individual, others)
+}
+
+// The individual that the fact puts into a class, if it does.
+fn individual_of(fact: Fact) -> Option<IndId>
+    ensures { MatchOption result ((class : Class2) (individual : Ind) → fact ≡ In class (Individual individual) → ⊥) (λ individual. (class : Class2) × (fact ≡ In class (Individual individual))) }
+{
+    match fact {
+        Fact::In(_, Context::Individual(individual)) => Some(individual),
+        _ => None,
+    }
+}
+
+/// What two individuals led to that differ and are one: adds the line of the fact, and gives its number. `list` is the number of a
+/// list that has the two. The other one is the first behind the individual that the fact speaks of.
+///
+/// # Errors
+///
+/// `Memory` where memory was refused, or there are more than 2^32 - 1 forms.
+pub(crate) fn shown_by_different<L: LineSink>(
+    basis: &Basis<'_>,
+    derivation: &mut Derivation<L>,
+    fact: FactId,
+    list: u32,
+) -> Result<LineNumbers, Memory>
+    requires saturated { IsSaturated basis.now.ontology.now basis.now.saturation.now }
+    requires there { fact.0 < length basis.now.saturation.now.state.facts }
+    requires derivation { IsDerivation basis.now.ontology.now derivation.old }
+    requires born { IsBornBy basis.now.saturation.now fact.0 12 list }
+    ensures derivation { OnOk result (IsDerivation basis.now.ontology.now derivation.new) }
+    ensures longer { OnOk result (Lengthens derivation.old derivation.new) }
+    ensures shown { IfOk result (λ numbers. ShowsFact basis.now.saturation.now derivation.new fact.0 numbers.items) }
+    ensures used { IfOk result (λ numbers. Uses derivation.old derivation.new (IsAmong []) numbers.items) }
+{
+    basis.ontology.well_formed();
+    let fact = fact_of(basis.saturation, fact);
+    let Some(individual) = individual_of(fact) else {
+        // An individual is in owl:Nothing.
+        unreachable!()
+    };
+    let found = chain_to_another(basis, list, individual)?;
+    let Some(chain) = found else {
+        // It is one with another.
+        unreachable!()
+    };
+    let number = same_along(basis, derivation, individual, &chain)?;
+    let mut numbers = SmallVec::new(basis.alloc);
+    numbers.push(number)?;
+    let axiom = basis.saturation.normal().different_axiom(list as usize);
+    let numbers = concluded(basis.alloc, derivation, fact, Rule::K20, axiom, numbers)?;
+    Ok(numbers)
+}
