@@ -13,4 +13,5 @@ pub mod Visiting
 pub mod Edges
 pub mod Below
 pub mod Meeting
+pub mod Restrictions
 pub mod Marking

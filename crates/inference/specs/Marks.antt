@@ -1,5 +1,6 @@
 -- Marks of facts, and masks of properties, by which it is told that no chain joins two edges, and that an edge carries nothing for a class.
-use Rattle.std.specs.Prelude.{◌≡◌, ℕ, ◌<◌, ◌%◌, List, slice_get, Some}
+use Rattle.std.specs.Prelude.{◌≡◌, ℕ, ◌<◌, ◌%◌, List, [], ◌∷◌, length, slice_get, Some}
+use Rattle.std.specs.List.{Contains}
 use Rattle.std.specs.Int.{bit_at}
 use Rattle.normal_forms.specs.declared.forms.Form.{Form}
 use Rattle.axioms.specs.declared.ids.PropId.{PropId}
@@ -10,10 +11,14 @@ use Rattle.normal_forms.specs.declared.forms.PropId2.TheVariants.{Property, Part
 use Rattle.normal_forms.specs.Properties.{IsAtOrBelow}
 use Rattle.facts.specs.declared.contexts.Fact.{Fact}
 use Rattle.facts.specs.declared.contexts.Fact.TheVariants.{In, Edge}
-use Rattle.facts.specs.Closure.{nothing}
-use Rattle.indexes.specs.Keys.{by_chain, by_end, by_filler, class_key, property_key}
-use Rattle.indexes.specs.FormsUnderKeys.{IsUnder}
-use Rattle.inference.specs.Visits.{IsBy}
+use Rattle.facts.specs.Closure.{Problem, Carries, nothing}
+use Rattle.indexes.specs.declared.keys.Key.TheVariants.{Whole}
+use Rattle.indexes.specs.Keys.{by_chain, by_end, by_filler, by_restricted, class_key, property_key}
+use Rattle.indexes.specs.FormsUnderKeys.{IsUnder, numbers_under}
+use Rattle.number_sets.specs.Pieces.{list_at}
+use Rattle.inference.specs.Derivations.{Derived}
+use Rattle.inference.specs.Completeness.{DrawnUpToRedundancy, IsDrawnFrom}
+use Rattle.inference.specs.Visits.{IsBy, IsClassFact}
 
 -- a mark below the greatest is the number of the property of an edge
 abbrev pub IsMark : ℕ → Fact → Type 0
@@ -84,3 +89,41 @@ HasAboveOf forms mask (Edge x p y) = HasAbove forms mask p
 abbrev pub HasFilledOf : List Form → ℕ → Fact → Type 0
 HasFilledOf forms mask (In a x) = HasFilled forms mask a
 HasFilledOf forms mask (Edge x p y) = ⊥
+
+-- ---- restrictions by their properties, and what they give from an edge
+
+-- the number of each property that one of the forms is a restriction on is below the bound
+abbrev pub AreRestrictionsWithin : List Form → ℕ → Type 0
+AreRestrictionsWithin forms bound = (r n : ℕ) → IsUnder by_restricted forms (Whole r) n → r < bound
+
+-- the list of each property has the numbers of those of the first so many forms that are restrictions on it, in order
+abbrev pub AreRestrictionsBefore : List Form → ℕ → List (List ℕ) → Type 0
+AreRestrictionsBefore forms many lists = (r : ℕ) → list_at lists r ≡ numbers_under by_restricted (slice_get forms) (Whole r) many
+
+-- the list of each property has the numbers of the restrictions on it, in order
+abbrev pub AreRestrictions : List Form → List (List ℕ) → Type 0
+AreRestrictions forms lists = AreRestrictionsBefore forms (length forms) lists
+
+-- if the form at the place is a restriction, what it gives from the edge and each fact that was there is there
+abbrev pub IsFilled : Problem → Fact → List Fact → List Fact → ℕ → Type 0
+IsFilled k edge old new n = (r : PropId) (a b : Class2) → slice_get k.forms n ≡ Some (N4 r a b) → (g : Fact) → Contains old g → IsDrawnFrom k (edge ∷ g ∷ []) new n
+
+-- it is so at each of the places
+abbrev pub AreFilled : Problem → Fact → List Fact → List Fact → List ℕ → Type 0
+AreFilled k edge old new places = (n : ℕ) → Contains places n → IsFilled k edge old new n
+
+-- it is so for each restriction on r
+abbrev pub AreFilledOn : Problem → Fact → List Fact → List Fact → PropId2 → Type 0
+AreFilledOn k edge old new r = (n : ℕ) → IsUnder by_restricted k.forms (property_key r) n → IsFilled k edge old new n
+
+-- it is so for each restriction
+abbrev pub AllFilled : Problem → Fact → List Fact → List Fact → Type 0
+AllFilled k edge old new = (n : ℕ) → IsFilled k edge old new n
+
+-- owl:Nothing is at the source of the edge, if it was at its target
+abbrev pub IsNothingCarried : Fact → List Fact → List Fact → Type 0
+IsNothingCarried edge old new = (g h : Fact) → Contains old g → Carries edge g h → Contains new h
+
+-- what the edge gives as the first of two, with each class in a context that was there as the second, is there or redundant
+abbrev pub MeetsClasses : Problem → Fact → List Fact → Derived → Type 0
+MeetsClasses k edge old new = (g : Fact) → Contains old g → IsClassFact g → DrawnUpToRedundancy k (edge ∷ g ∷ []) new

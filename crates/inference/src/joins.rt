@@ -1,11 +1,14 @@
 //! Which edges chains may join, told by the properties of the two, and for which classes an edge may carry something to its source.
-ghost use Rattle.std.specs.Prelude.{◌≡◌, ◌↔◌, ℕ, List, Contains, IfOk, IsTrue, length, slice_get, Some, None, true};
+ghost use Rattle.std.specs.Prelude.{◌≡◌, ◌↔◌, ◌+◌, ◌<◌, ◌^◌, ℕ, List, Contains, IfOk, IsTrue, OnOk, length, slice_get, Some, None, true};
 ghost use Rattle.facts.specs.Closure.{nothing};
+ghost use Rattle.indexes.specs.FormsUnderKeys.{IsUnder};
+ghost use Rattle.indexes.specs.Keys.{by_restricted, property_key};
+ghost use Rattle.indexes.specs.declared.keys.Key.TheVariants as keys;
 ghost use Rattle.normal_forms.specs.declared.forms.Form.{Form as Form2};
 ghost use Rattle.normal_forms.specs.declared.forms.Class2.TheVariants as the_classes;
 ghost use Rattle.property_closure.specs.PropertyClosures.{Has};
 ghost use Rattle.inference.specs.PropertyClosures.{IsClosureOf};
-ghost use Rattle.inference.specs.Marks.{HasAbove, HasBit, HasEnd, HasEnds, HasFilled, HasFilledAt, HasSecondAt, HasSeconds};
+ghost use Rattle.inference.specs.Marks.{AreRestrictions, AreRestrictionsBefore, AreRestrictionsWithin, HasAbove, HasBit, HasEnd, HasEnds, HasFilled, HasFilledAt, HasSecondAt, HasSeconds};
 ghost use Rattle.inference.specs.Joins.{AreJoins};
 
 use crate::conclusions::NOTHING;
@@ -13,20 +16,22 @@ use crate::properties::is_listed;
 use crate::visits::has_any;
 use axioms::{ExprId, Memory, PropId};
 use indexes::IndexedProblem;
-use normal_forms::{Class2, Form, PropId2};
+use normal_forms::{Class2, Form, FormList, PropId2};
+use number_sets::{OpenLists, PackedLists};
 use property_closure::PropertyClosure;
-use std::alloc::Global;
+use std::alloc::{AllocError, Global};
 
 /// For each property a mask of those that an edge may have that a chain joins behind one by it, a mask of the properties that it counts
 /// as at the end of a chain, and a mask of the properties at or above it; and for each expression a mask of the properties of the
 /// restrictions that it fills. A chain joins two edges only where the first two have a bit in common, and an edge carries something to
-/// its source for a class at its target only where the last two have.
+/// its source for a class at its target only where the last two have. And for each property the numbers of the restrictions on it.
 #[derive(Drop)]
 pub struct Joins {
     pub(crate) seconds: Vec<u64>,
     pub(crate) ends: Vec<u64>,
     pub(crate) above: Vec<u64>,
     pub(crate) filled: Vec<u64>,
+    pub(crate) restrictions: PackedLists,
 }
 
 /// The bit that stands for the property, alone.
@@ -163,6 +168,60 @@ fn all_filled(alloc: Global, problem: &IndexedProblem) -> Result<Vec<u64>, Memor
     Ok(masks)
 }
 
+/// A number above that of the property that the form is a restriction on; 0 where it is none.
+fn end_by(form: Form) -> usize
+    ensures { (r : ℕ) → by_restricted form ≡ Some (keys.Whole r) → r < result }
+{
+    match form {
+        Form::N4(property, ..) => property.index() + 1,
+        _ => 0,
+    }
+}
+
+/// A number above that of each property that one of the forms is a restriction on.
+fn restrictions_end(forms: &FormList) -> usize
+    ensures { AreRestrictionsWithin forms.now result }
+{
+    let mut end = 0;
+    for number in 0..forms.len() {
+        end = end.max(end_by(forms.at(number)));
+    }
+    end
+}
+
+/// Adds the number of a form to the list of the property that it is a restriction on, if it is one.
+fn list_restriction(
+    forms: &FormList,
+    number: usize,
+    lists: &mut OpenLists,
+) -> Result<(), AllocError>
+    requires few { length forms.now < 2 ^ 32 }
+    requires there { number < length forms.now }
+    requires within { AreRestrictionsWithin forms.now (length lists.old) }
+    requires before { AreRestrictionsBefore forms.now number lists.old }
+    ensures long { OnOk result (length lists.new ≡ length lists.old) }
+    ensures listed { OnOk result (AreRestrictionsBefore forms.now (number + 1) lists.new) }
+{
+    if let Form::N4(property, ..) = forms.at(number) {
+        lists.push(property.index(), number as u32)?;
+    }
+    Ok(())
+}
+
+/// For each property up to the last that a restriction is on the numbers of the restrictions on it.
+fn all_restrictions(alloc: Global, forms: &FormList) -> Result<PackedLists, Memory>
+    ensures { IfOk result (AreRestrictions forms.now) }
+{
+    if forms.len() > u32::MAX as usize {
+        return Err(Memory);
+    }
+    let mut lists = OpenLists::new(alloc, restrictions_end(forms))?;
+    for number in 0..forms.len() {
+        list_restriction(forms, number, &mut lists)?;
+    }
+    Ok(lists.packed(alloc)?)
+}
+
 /// The mask at the place; all bits where there is none.
 fn mask_at(masks: &[u64], place: usize) -> u64
     ensures there { (mask : ℕ) → slice_get masks.now place ≡ Some mask → result ≡ mask }
@@ -192,9 +251,9 @@ fn are_blank(masks: &[u64]) -> bool {
 }
 
 impl Joins {
-    /// No property has a mask.
-    fn none(alloc: Global) -> Joins
-        ensures joins { (forms : List Form2) → AreJoins forms result }
+    /// No property has a mask; these are the numbers of the restrictions on each.
+    fn none(alloc: Global, restrictions: PackedLists) -> Joins
+        ensures joins { (forms : List Form2) → AreRestrictions forms restrictions → AreJoins forms result }
         ensures seconds { length result.seconds.items ≡ 0 }
         ensures ends { length result.ends.items ≡ 0 }
         ensures above { length result.above.items ≡ 0 }
@@ -204,6 +263,7 @@ impl Joins {
             ends: Vec::new(alloc),
             above: Vec::new(alloc),
             filled: Vec::new(alloc),
+            restrictions,
         }
     }
 
@@ -216,7 +276,8 @@ impl Joins {
         requires { IsClosureOf problem.now.forms closure.now }
         ensures { IfOk result (AreJoins problem.now.forms) }
     {
-        let mut joins = Joins::none(alloc);
+        let restrictions = all_restrictions(alloc, problem.forms())?;
+        let mut joins = Joins::none(alloc, restrictions);
         joins.filled = all_filled(alloc, problem)?;
         for number in 0..u16::MAX as u32 {
             let property = PropId2::Property(PropId(number));
@@ -293,6 +354,16 @@ impl Joins {
         match class {
             Class2::Expr(ExprId(number)) => mask_at(&self.filled, number as usize),
             Class2::Partial(_) => u64::MAX,
+        }
+    }
+
+    /// The numbers of the restrictions on the property.
+    pub(crate) fn restrictions(&self, property: PropId2) -> &[u32]
+        ensures { (forms : List Form2) → AreJoins forms self.now → (n : ℕ) → Contains result.now n ↔ IsUnder by_restricted forms (property_key property) n }
+    {
+        match property {
+            PropId2::Property(property) => self.restrictions.at(property.index()),
+            PropId2::Partial(_) => &[],
         }
     }
 }

@@ -5,6 +5,7 @@ mod apart;
 mod conclusions;
 mod differences;
 mod entries;
+mod filling;
 mod joins;
 mod known_facts;
 mod pairing;

@@ -248,7 +248,7 @@ impl Rules<'_> {
 
     /// Adds what the edge with these bits of properties gives as the first of two, with each of those of the other numbers, which put
     /// classes into contexts.
-    fn meet_before(
+    pub(crate) fn meet_before(
         &self,
         facts: &mut KnownFacts,
         hand: u32,
@@ -453,8 +453,7 @@ impl Rules<'_> {
                 self.carry(facts, hand, class, x, index.edges_into(x))?;
             }
             Fact::Edge(x, property, y) => {
-                let above = self.joins.above(property);
-                self.meet_before(facts, hand, fact, above, index.fillers_in(y))?;
+                self.meet_fillers(facts, hand, fact, property, y, index.fillers_in(y))?;
                 self.lead_on(facts, hand, fact, property, index.second_premises_from(y))?;
                 self.lead_up(facts, hand, fact, property, is_second, index.edges_into(x))?;
             }

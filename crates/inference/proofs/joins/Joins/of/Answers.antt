@@ -12,6 +12,7 @@ returns c =
         ends = λ n mask at. absurd (none-some mask (ap (λ (l : List ℕ). slice_get l n) (sym w.clear-then-are_blank.ensures.items) ∙ at));
         above = are.above;
         filled = are.filled;
+        restrictions = are.restrictions;
       })
       | else-are_blank w ↦ rw w.joins-is are
     ]

@@ -1,9 +1,9 @@
 use Rattle.std.proofs.Common.{subst}
-use Rattle.inference.specs.Visits.{IsClassFact, IsEdge}
+use Rattle.inference.specs.Visits.{IsEdge}
 use Rattle.inference.specs.Completeness.{IsRedundantAsSecond}
 use Rattle.inference.proofs.Growth.{grows_trans}
 use Rattle.inference.proofs.Drawing.{all_met_still, before_still, draws, for_each_earlier}
-use Rattle.inference.proofs.Meeting.{met_in, met_edge, classes_listed, fillers_listed, second_premises_listed, into_listed, all_still_there, numbers_within}
+use Rattle.inference.proofs.Meeting.{met_in, met_edge, classes_listed, fillers_listed, second_premises_listed, into_listed, all_still_there}
 use Rattle.inference.proofs.Redundancy.{second_still}
 use Rattle.inference.proofs.rules.Rules.meet_listed.Goals as goal
 
@@ -13,25 +13,20 @@ meet_classes-requires-clause-numbers c = classes_listed c.requires.index c.in-In
 pub carry-requires-clause-numbers : goal.carry-requires-clause-numbers
 carry-requires-clause-numbers c = all_still_there c.meet_classes.ensures.grows IsEdge c.edges_into.result.now (into_listed c.requires.index c.in-In.x c.edges_into.result.now c.edges_into.ensures)
 
-pub meet_before-requires-clause-above : goal.meet_before-requires-clause-above
-meet_before-requires-clause-above c = c.above-above.ensures c.args.self.now.problem.now.forms c.args.self.now.joined
-
-pub meet_before-requires-clause-numbers : goal.meet_before-requires-clause-numbers
-meet_before-requires-clause-numbers c =
-    numbers_within IsClassFact c.args.facts.now.facts c.fillers_in.result.now
-    (fillers_listed c.requires.index c.in-Edge.y c.fillers_in.result.now c.fillers_in.ensures)
+pub meet_fillers-requires-clause-numbers : goal.meet_fillers-requires-clause-numbers
+meet_fillers-requires-clause-numbers c = fillers_listed c.requires.index c.in-Edge.y c.fillers_in.result.now c.fillers_in.ensures
 
 pub lead_on-requires-clause-numbers : goal.lead_on-requires-clause-numbers
-lead_on-requires-clause-numbers c = all_still_there c.meet_before.ensures.grows IsEdge c.second_premises_from.result.now (second_premises_listed c.requires.index c.in-Edge.y c.second_premises_from.result.now c.second_premises_from.ensures)
+lead_on-requires-clause-numbers c = all_still_there c.meet_fillers.ensures.grows IsEdge c.second_premises_from.result.now (second_premises_listed c.requires.index c.in-Edge.y c.second_premises_from.result.now c.second_premises_from.ensures)
 
 pub lead_up-requires-clause-second : goal.lead_up-requires-clause-second
 lead_up-requires-clause-second c = λ no.
     subst (IsRedundantAsSecond c.args.self.now.problem.now c.lead_on.new.facts) c.in-Edge.is
-    (second_still (grows_trans c.meet_before.ensures.grows c.lead_on.ensures.grows) c.args.fact (c.requires.second no))
+    (second_still (grows_trans c.meet_fillers.ensures.grows c.lead_on.ensures.grows) c.args.fact (c.requires.second no))
 
 pub lead_up-requires-clause-numbers : goal.lead_up-requires-clause-numbers
 lead_up-requires-clause-numbers c =
-    all_still_there (grows_trans c.meet_before.ensures.grows c.lead_on.ensures.grows) IsEdge c.edges_into-in-Edge.result.now
+    all_still_there (grows_trans c.meet_fillers.ensures.grows c.lead_on.ensures.grows) IsEdge c.edges_into-in-Edge.result.now
     (into_listed c.requires.index c.in-Edge.x c.edges_into-in-Edge.result.now c.edges_into-in-Edge.ensures)
 
 pub returns-in_ok-carry-in-In : goal.returns-in_ok-carry-in-In
@@ -47,12 +42,12 @@ pub returns-in_ok-lead_up-in-Edge : goal.returns-in_ok-lead_up-in-Edge
 returns-in_ok-lead_up-in-Edge c =
     let old = c.args.facts.now.facts in
     let new = c.lead_up.new.facts in
-    let s = c.meet_before.ensures.grows in
+    let s = c.meet_fillers.ensures.grows in
     let t = c.lead_on.ensures.grows in
     let u = c.lead_up.ensures.grows in
     draws (grows_trans s (grows_trans t u))
     (rw c.in-Edge.is (met_edge c.args.self.now.problem.now old c.args.index.now new c.in-Edge.x _ c.in-Edge.y c.fillers_in.result.now c.second_premises_from.result.now c.edges_into-in-Edge.result.now
     c.fillers_in.ensures c.second_premises_from.ensures c.edges_into-in-Edge.ensures
-    (before_still (grows_trans t u) _ old _ c.in_ok-meet_before-in-Edge.ensures.drawn)
+    (before_still (grows_trans t u) _ old _ c.in_ok-meet_fillers-in-Edge.ensures.drawn)
     (before_still u _ old _ (for_each_earlier s _ _ c.in_ok-lead_on-in-Edge.ensures.drawn))
     (for_each_earlier (grows_trans s t) _ _ c.in_ok-lead_up-in-Edge.ensures.drawn)))
