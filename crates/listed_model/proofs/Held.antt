@@ -1,53 +1,119 @@
 -- What is kept.
-use Rattle.std.proofs.Common.{◌≡◌, ◌↔◌, inl, inr, ℕ, List, [], ◌∷◌, ◌++◌, ◌&&◌, ◌||◌, ◌⊎◌, IsTrue, Bool, true, false, length, get_or, sym, ap, ◌∙◌, subst, arith, true≢false}
+use Rattle.std.proofs.Common.{◌≡◌, ◌↔◌, ◌<◌, ◌≤◌, inl, inr, ℕ, zero, suc, List, [], ◌∷◌, ◌++◌, ◌&&◌, ◌||◌, ◌⊎◌, IsTrue, Bool, true, false, length, map, get_or, slice_get, Some, refl, sym, ap, ◌∙◌, subst, arith, true≢false}
 use Rattle.std.specs.Prelude.{filter}
 use Rattle.std.specs.List.{list_all}
 use Rattle.std.specs.List.Sorted.{IsStrictlyIncreasing}
 use Rattle.std.proofs.lemmas.Bool.{and_from, and_parts, cases_lt, or_cases, or_left, or_right}
-use Rattle.std.proofs.lemmas.List.{get_or_append_left, get_or_past, get_or_push, length_push}
+use Rattle.std.proofs.lemmas.List.{append-nil, get_or_append_left, get_or_push, length-append, length_push}
 use Rattle.std.proofs.lemmas.List.Elements.{Contains-get_or}
+use Rattle.std.proofs.lemmas.Option.{get_or_from_slice_get, same_Some, slice_get-get_or, slice_get_within}
 use Rattle.std.proofs.lemmas.List.Kept.{AllPairs-from_increasing, IsStrictlyIncreasing-filter}
+use Rattle.lemmas.proofs.Mapped.{All-from_map}
 use Rattle.axioms.specs.Ontology.{Ontology}
+use Rattle.axioms.specs.WellFormedness.{IsOntology}
 use Rattle.certificate.specs.Certificate.{Listed}
-use Rattle.certificate.specs.View.{listed_of}
+use Rattle.certificate.specs.Writability.{AreElements, IsListedOf, IsNamedClass}
+use Rattle.certificate.specs.View.{class_row_of, listed_of}
+use Rattle.certificate.specs.declared.listed.ClassRow.{ClassRow}
 use Rattle.certificate.specs.declared.listed.Listed as code
 use Rattle.number_sets.specs.Members.{has}
-use Rattle.number_sets.specs.Pieces.{list_at}
 use Rattle.listed_model.specs.Extensions.{AreAscending, AreThose, IsElement, IsExtension}
-use Rattle.listed_model.specs.Keeping.{AreKept}
+use Rattle.listed_model.specs.Interpretations.{class_members}
+use Rattle.listed_model.specs.Keeping.{AreKept, StandAt}
+use Rattle.listed_model.specs.Listing.{elements_of}
 use Rattle.listed_model.specs.Members.{holds}
 use Rattle.listed_model.specs.Rows.{AreHolders}
 use Rattle.listed_model.specs.declared.kept.Kept.{Kept}
-use Rattle.listed_model.proofs.Extensions.{holds_filter, list_all_from, list_all_member}
+use Rattle.listed_model.specs.declared.kept.Place.{Place}
+use Rattle.listed_model.specs.declared.kept.Place.TheVariants as place
+use Rattle.listed_model.proofs.Extensions.{class_extension, holds_filter, list_all_from, list_all_member}
+use Rattle.listed_model.proofs.Found.{elements_found}
+use Rattle.listed_model.proofs.Given.{class_rows_given}
 use Rattle.listed_model.proofs.Members.{holds_from_Contains, Contains_from_holds}
 use Rattle.listed_model.proofs.Said.{same_members}
 
--- a list that is kept has the elements of its expression
-pub kept_is : (o : Ontology) (l : code.Listed) (k : Kept) (e : ℕ) (xs : List ℕ) → AreKept o l k → has k.there.items e ≡ true → xs ≡ list_at k.lists e → IsExtension o (listed_of l) e xs
-kept_is o l k e xs kept there is = subst (IsExtension o (listed_of l) e) (sym is) (kept.elements e there)
+-- the elements of a class stand in its row
+pub row_is : (o : Ontology) → IsOntology o → (l : code.Listed) → IsListedOf o (listed_of l) → (k : ℕ) (row : ClassRow) → slice_get l.classes.items k ≡ Some row → IsExtension o (listed_of l) row.class.0 row.elements.items
+row_is o w l fits k row g =
+    let (named, two, _) = get_All k row g in
+    subst (IsExtension o (listed_of l) row.class.0) (is row.class.0 two refl) (class_extension o w (listed_of l) fits row.class.0 named.0 named.1)
+  where
+    get_All : (k : ℕ) (row : ClassRow) → slice_get l.classes.items k ≡ Some row → IsNamedClass o row.class.0 × (2 ≤ row.class.0) × AreElements l.domain row.elements.items
+    get_All k row g =
+        subst (λ (r : ClassRow). IsNamedClass o r.class.0 × (2 ≤ r.class.0) × AreElements l.domain r.elements.items) (get_or_from_slice_get l.classes.items k row row g)
+        (All-from_map (λ (c : ℕ × List ℕ). IsNamedClass o c.0 × (2 ≤ c.0) × AreElements l.domain c.1) class_row_of l.classes.items fits.classes k row (slice_get_within l.classes.items k row g))
 
-pub kept_push : (o : Ontology) (l : code.Listed) (old new : Kept) (n : ℕ) (xs : List ℕ) (b : Bool) → length old.lists ≡ n → length old.there.items ≡ n → AreKept o l old
-    → (b ≡ true → IsExtension o (listed_of l) n xs)
-    → (new.holders ≡ old.holders) × (new.lists ≡ old.lists ++ xs ∷ []) × (new.there.items ≡ old.there.items ++ b ∷ []) → AreKept o l new
-kept_push o l old new n xs b many_lists many kept one (holders, lists, there) = record {
+    is : (e : ℕ) → 2 ≤ e → e ≡ row.class.0 → class_members (listed_of l) e ≡ row.elements.items
+    is zero two at = absurd (omega (arith, two))
+    is (suc zero) two at = absurd (omega (arith, two))
+    is (suc (suc e)) two at = ap (λ (n : ℕ). elements_of (map class_row_of l.classes.items) n) at ∙ elements_found l.classes.items (class_rows_given o l fits).ordered k row g
+
+-- a list that is among the first ones
+list_before : (lists more : List (List ℕ)) (k : ℕ) (xs : List ℕ) → k < length lists → slice_get (lists ++ more) k ≡ Some xs → slice_get lists k ≡ Some xs
+list_before lists more k xs b g =
+    slice_get-get_or lists k xs b ∙ ap Some (sym (get_or_append_left lists more xs k b) ∙ get_or_from_slice_get (lists ++ more) k xs xs g)
+
+stand_before : (rows : List ClassRow) (lists more : List (List ℕ)) (p : Place) (xs : List ℕ) → ((n : ℕ) → p ≡ place.List n → n < length lists) → StandAt rows (lists ++ more) p xs → StandAt rows lists p xs
+stand_before rows lists more place.Nowhere xs below s = s
+stand_before rows lists more (place.Row k) xs below s = s
+stand_before rows lists more (place.List k) xs below s = list_before lists more k xs (below k refl) s
+
+-- the place of one expression more
+pub kept_push : (o : Ontology) (l : code.Listed) (old new : Kept) (p : Place) (more : List (List ℕ)) → AreKept o l old → new.holders ≡ old.holders → new.lists ≡ old.lists ++ more
+    → new.places.items ≡ old.places.items ++ p ∷ [] → ((n : ℕ) → p ≡ place.List n → n < length new.lists)
+    → ((xs : List ℕ) → StandAt l.classes.items new.lists p xs → IsExtension o (listed_of l) (length old.places.items) xs) → AreKept o l new
+kept_push o l old new p more kept holders lists places below one = record {
   holders = subst (AreHolders l.pairs.items l.domain) (sym holders) kept.holders;
-  elements = λ e h.
-      let t : has (old.there.items ++ b ∷ []) e ≡ true = ap (λ row. has row e) (sym there) ∙ h in
-      elim (cases_lt e n) [
-        | inl before ↦
-            (let was : has old.there.items e ≡ true = sym (get_or_append_left old.there.items (b ∷ []) false e (omega arith)) ∙ t in
-            let is : list_at new.lists e ≡ list_at old.lists e = ap (λ ls. list_at ls e) lists ∙ get_or_append_left old.lists (xs ∷ []) [] e (omega arith) in
-            subst (IsExtension o (listed_of l) e) (sym is) (kept.elements e was))
-        | inr from ↦ elim (cases_lt n e) [
-          | inl past ↦ absurd (true≢false (sym t ∙ get_or_past (old.there.items ++ b ∷ []) e false (omega (arith, length_push old.there.items b))))
-          | inr upto ↦
-              (let at : n ≡ e = omega arith in
-              let now : b ≡ true = sym (get_or_push old.there.items b false e (many ∙ at)) ∙ t in
-              let is : list_at new.lists e ≡ xs = ap (λ ls. list_at ls e) lists ∙ get_or_push old.lists xs [] e (many_lists ∙ at) in
-              subst (IsExtension o (listed_of l) e) (sym is) (subst (λ (k : ℕ). IsExtension o (listed_of l) k xs) at (one now)))
-        ]
-      ];
+  lists = λ e n g. elim (which e (place.List n) (ap (λ ps. slice_get ps e) (sym places) ∙ g)) [
+    | inl was ↦ (let b = kept.lists e n was in omega (arith, b, ap length lists, length-append old.lists more))
+    | inr (_, is) ↦ below n is
+  ];
+  elements = λ e xs (q, g, s). elim (which e q (ap (λ ps. slice_get ps e) (sym places) ∙ g)) [
+    | inl was ↦ kept.elements e xs (q, was, stand_before l.classes.items old.lists more q xs (λ n is. kept.lists e n (was ∙ ap Some is)) (subst (λ (ls : List (List ℕ)). StandAt l.classes.items ls q xs) lists s))
+    | inr (at, is) ↦ subst (λ (n : ℕ). IsExtension o (listed_of l) n xs) at (one xs (subst (λ (r : Place). StandAt l.classes.items new.lists r xs) (sym is) s))
+  ];
 }
+  where
+    which : (e : ℕ) (q : Place) → slice_get (old.places.items ++ p ∷ []) e ≡ Some q → (slice_get old.places.items e ≡ Some q) ⊎ ((length old.places.items ≡ e) × (p ≡ q))
+    which e q g = elim (cases_lt e (length old.places.items)) [
+      | inl b ↦ inl (slice_get-get_or old.places.items e q b ∙ ap Some (sym (get_or_append_left old.places.items (p ∷ []) q e b) ∙ get_or_from_slice_get (old.places.items ++ p ∷ []) e q q g))
+      | inr from ↦
+          (let within = slice_get_within (old.places.items ++ p ∷ []) e q g in
+          let at : length old.places.items ≡ e = omega (arith, length_push old.places.items p) in
+          inr (at, sym (get_or_push old.places.items p q e at) ∙ get_or_from_slice_get (old.places.items ++ p ∷ []) e q q g))
+    ]
+
+abbrev is_list : Place → Bool
+is_list place.Nowhere = false
+is_list (place.Row k) = false
+is_list (place.List k) = true
+
+-- .. in a row, in a list that was made, or nowhere
+pub kept_row : (o : Ontology) → IsOntology o → (l : code.Listed) → IsListedOf o (listed_of l) → (old new : Kept) (k : ℕ) (row : ClassRow) → AreKept o l old → slice_get l.classes.items k ≡ Some row → row.class.0 ≡ length old.places.items
+    → (new.holders ≡ old.holders) × (new.lists ≡ old.lists) × (new.places.items ≡ old.places.items ++ place.Row k ∷ []) → AreKept o l new
+kept_row o w l fits old new k row kept g is (holders, lists, places) =
+    kept_push o l old new (place.Row k) [] kept holders (lists ∙ sym (append-nil old.lists)) places
+    (λ n e. absurd (true≢false (sym (ap is_list e))))
+    (λ xs (r, h, s). subst (IsExtension o (listed_of l) (length old.places.items)) (ap (λ (r : ClassRow). r.elements.items) (same_Some row r (sym g ∙ h)) ∙ s)
+    (subst (λ (e : ℕ). IsExtension o (listed_of l) e row.elements.items) is (row_is o w l fits k row g)))
+
+pub kept_list : (o : Ontology) (l : code.Listed) (old new : Kept) (xs : List ℕ) → AreKept o l old → IsExtension o (listed_of l) (length old.places.items) xs
+    → (new.holders ≡ old.holders) × (new.lists ≡ old.lists ++ xs ∷ []) × (new.places.items ≡ old.places.items ++ place.List (length old.lists) ∷ []) → AreKept o l new
+kept_list o l old new xs kept one (holders, lists, places) =
+    kept_push o l old new (place.List (length old.lists)) (xs ∷ []) kept holders lists places
+    (λ n e. let same : length old.lists ≡ n = ap number_of e in omega (arith, same, ap length lists, length_push old.lists xs))
+    (λ ys s. subst (IsExtension o (listed_of l) (length old.places.items))
+    (sym (get_or_push old.lists xs ys (length old.lists) refl) ∙ get_or_from_slice_get (old.lists ++ xs ∷ []) (length old.lists) ys ys (ap (λ ls. slice_get ls (length old.lists)) (sym lists) ∙ s)) one)
+  where
+    number_of : Place → ℕ
+    number_of place.Nowhere = 0
+    number_of (place.Row k) = 0
+    number_of (place.List k) = k
+
+pub kept_nowhere : (o : Ontology) (l : code.Listed) (old new : Kept) → AreKept o l old
+    → (new.holders ≡ old.holders) × (new.lists ≡ old.lists) × (new.places.items ≡ old.places.items ++ place.Nowhere ∷ []) → AreKept o l new
+kept_nowhere o l old new kept (holders, lists, places) =
+    kept_push o l old new place.Nowhere [] kept holders (lists ∙ sym (append-nil old.lists)) places (λ n e. absurd (true≢false (sym (ap is_list e)))) (λ xs s. absurd s)
 
 -- ---- a list that has the elements of an expression
 

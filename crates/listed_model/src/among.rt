@@ -118,7 +118,7 @@ pub(crate) fn those_in(
     requires elements { AreAscending listed.now.domain elements.now }
     ensures { IfOk result (λ those. AreThose ontology.now (listed_of listed.now) expression.0 elements.now those.items) }
 {
-    if let Some(list) = kept.at(expression) {
+    if let Some(list) = kept.at(listed, expression) {
         return common(alloc, elements, list);
     }
     match ontology.expr(expression) {

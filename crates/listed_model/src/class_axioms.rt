@@ -35,7 +35,7 @@ pub(crate) fn are_in(
     requires elements { AreAscending listed.now.domain elements.now }
     ensures { IfOk result (λ all. IsTrue all ↔ ((x : ℕ) → holds elements.now x ≡ true → IsElement ontology.now (listed_of listed.now) expression.0 x)) }
 {
-    if let Some(list) = kept.at(expression) {
+    if let Some(list) = kept.at(listed, expression) {
         return Ok(are_within(elements, list));
     }
     let those = those_in(alloc, ontology, listed, kept, expression, elements)?;
@@ -58,7 +58,7 @@ pub(crate) fn is_within(
     ensures { IfOk result (λ within. IsTrue within
         ↔ ((x : ℕ) → IsElement ontology.now (listed_of listed.now) sub.0 x → IsElement ontology.now (listed_of listed.now) sup.0 x)) }
 {
-    if let Some(elements) = kept.at(sub) {
+    if let Some(elements) = kept.at(listed, sub) {
         return are_in(alloc, ontology, listed, kept, elements, sup);
     }
     let elements = elements_of(alloc, ontology, listed, kept, sub)?;
@@ -80,7 +80,7 @@ fn are_all_of(
     requires elements { IsStrictlyIncreasing elements.now }
     ensures { IfOk result (λ all. IsTrue all ↔ ((x : ℕ) → (holds elements.now x ≡ true) ↔ IsElement ontology.now (listed_of listed.now) expression.0 x)) }
 {
-    if let Some(list) = kept.at(expression) {
+    if let Some(list) = kept.at(listed, expression) {
         return Ok(list == elements);
     }
     let others = elements_of(alloc, ontology, listed, kept, expression)?;
@@ -143,7 +143,7 @@ fn put_apart_of(
     ensures put { IfOk result (λ apart. IsTrue apart → (x : ℕ) → x < length seen.old
         → (has seen.new x ≡ true) ↔ ((has seen.old x ≡ true) ⊎ IsElement ontology.now (listed_of listed.now) expression.0 x)) }
 {
-    if let Some(list) = kept.at(expression) {
+    if let Some(list) = kept.at(listed, expression) {
         return Ok(put_apart(seen, list));
     }
     let elements = elements_of(alloc, ontology, listed, kept, expression)?;

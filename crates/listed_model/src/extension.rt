@@ -136,7 +136,7 @@ pub(crate) fn elements_of(
     requires there { expression.0 < length ontology.now.nodes }
     ensures { IfOk result (λ elements. IsExtension ontology.now (listed_of listed.now) expression.0 elements.items) }
 {
-    if let Some(list) = kept.at(expression) {
+    if let Some(list) = kept.at(listed, expression) {
         return Ok(Vec::from_slice(alloc, list)?);
     }
     match ontology.expr(expression) {

@@ -1,14 +1,15 @@
-//! Of which expressions the elements are kept: of each class, and of those whose lists few steps make from lists that are kept. How many
-//! these are goes by the listed interpretation, so of what takes more no list is made here.
+//! Of which expressions the elements are kept: of each class, whose row is lent, and of those whose lists few steps make from what is kept.
+//! How many these are goes by the listed interpretation, so of what takes more no list is made here.
 ghost use Rattle.certificate.specs.Writability.{IsListedOf};
 ghost use Rattle.certificate.specs.View.{listed_of};
+ghost use Rattle.certificate.specs.declared.listed.ClassRow.{ClassRow as ClassRow2};
 ghost use Rattle.listed_model.specs.Extensions.{IsExtension};
 ghost use Rattle.listed_model.specs.Keeping.{AreKept};
-ghost use Rattle.std.specs.Prelude.{◌<◌, ◌≡◌, Contains, IfOk, IfSome, length};
+ghost use Rattle.std.specs.Prelude.{◌<◌, ◌≡◌, ◌≤◌, ◌+◌, Contains, IfOk, IfSome, IsTrue, OnOk, Some, length, slice_get};
 
 use crate::among::those_in;
 use crate::extension::class_elements;
-use crate::kept::Kept;
+use crate::kept::{Kept, Place};
 use crate::restriction::{few_sources, holders_of, pair_count, take_steps};
 use axioms::{Expr, ExprId, Memory, Ontology};
 use certificate::{ClassRow, Listed};
@@ -23,6 +24,13 @@ fn member_count(rows: &[ClassRow]) -> usize {
     count
 }
 
+// Whether the row of that number is of the class.
+fn is_of(rows: &[ClassRow], number: usize, class: ExprId) -> bool
+    ensures { IsTrue result → (row : ClassRow2) × (slice_get rows.now number ≡ Some row) × (row.class.0 ≡ class.0) }
+{
+    number < rows.len() && rows[number].class == class
+}
+
 // How many steps all lists that are made may take together: four for each element, each pair and each member of a class.
 fn steps_for(listed: &Listed) -> usize {
     let pairs = pair_count(&listed.pairs);
@@ -34,13 +42,13 @@ fn steps_for(listed: &Listed) -> usize {
 }
 
 // The operand with the fewest elements, if those of each are kept.
-fn fewest(kept: &Kept, operands: &[ExprId]) -> Option<ExprId>
+fn fewest(kept: &Kept, listed: &Listed, operands: &[ExprId]) -> Option<ExprId>
     ensures { IfSome result (λ least. Contains operands.now least) }
 {
     let mut least = *operands.first()?;
     let mut bound = usize::MAX;
     for operand in operands {
-        let elements = kept.at(*operand)?;
+        let elements = kept.at(listed, *operand)?;
         if elements.len() < bound {
             least = *operand;
             bound = elements.len();
@@ -70,10 +78,10 @@ fn few_elements(
             Ok(Some(elements))
         }
         Some(Expr::And(operands)) => {
-            let Some(least) = fewest(kept, operands) else {
+            let Some(least) = fewest(kept, listed, operands) else {
                 return Ok(None);
             };
-            let Some(elements) = kept.at(least) else {
+            let Some(elements) = kept.at(listed, least) else {
                 return Ok(None);
             };
             if !take_steps(left, elements.len().saturating_mul(operands.len())) {
@@ -83,7 +91,7 @@ fn few_elements(
             Ok(Some(those))
         }
         Some(Expr::Some(property, filler)) => {
-            let Some(fillers) = kept.at(*filler) else {
+            let Some(fillers) = kept.at(listed, *filler) else {
                 return Ok(None);
             };
             few_sources(
@@ -100,6 +108,31 @@ fn few_elements(
     }
 }
 
+// Puts the place of the expression's elements behind the others: that of the list that is made of them, if one is.
+fn keep_list(
+    alloc: Global,
+    ontology: &Ontology,
+    listed: &Listed,
+    kept: &mut Kept,
+    expression: ExprId,
+    left: &mut usize,
+) -> Result<(), Memory>
+    requires listed { IsListedOf ontology.now (listed_of listed.now) }
+    requires kept { AreKept ontology.now listed.now kept.old }
+    requires next { length kept.old.places.items ≡ expression.0 }
+    requires few { length kept.old.lists ≤ expression.0 }
+    requires there { expression.0 < length ontology.now.nodes }
+    ensures kept { OnOk result (AreKept ontology.now listed.now kept.new) }
+    ensures places { OnOk result (length kept.new.places.items ≡ expression.0 + 1) }
+    ensures lists { OnOk result (length kept.new.lists ≤ expression.0 + 1) }
+{
+    let made = few_elements(alloc, ontology, listed, kept, expression, left)?;
+    match made {
+        Some(elements) => kept.put_list(&elements),
+        None => kept.put(Place::Nowhere),
+    }
+}
+
 /// What is kept of the listed interpretation, in memory that goes by it. It fails where memory is refused, or where there are 2^32
 /// rows of pairs.
 pub(crate) fn kept_of(alloc: Global, ontology: &Ontology, listed: &Listed) -> Result<Kept, Memory>
@@ -107,19 +140,22 @@ pub(crate) fn kept_of(alloc: Global, ontology: &Ontology, listed: &Listed) -> Re
     ensures { IfOk result (λ kept. AreKept ontology.now listed.now kept) }
 {
     ontology.bounded();
+    ontology.well_formed();
     let holders = holders_of(alloc, &listed.pairs, listed.domain)?;
     let mut kept = Kept {
         holders,
         lists: PackedLists::new(alloc),
-        there: Vec::new(alloc),
+        places: Vec::with_capacity(alloc, ontology.expression_count())?,
     };
     let mut left = steps_for(listed);
+    let mut next = 0;
     for number in 0..ontology.expression_count() {
         let expression = ExprId(number as u32);
-        let made = few_elements(alloc, ontology, listed, &kept, expression, &mut left)?;
-        match made {
-            Some(elements) => kept.put(&elements, true)?,
-            None => kept.put(&[], false)?,
+        if is_of(&listed.classes, next, expression) {
+            kept.put(Place::Row(next as u32))?;
+            next += 1;
+        } else {
+            keep_list(alloc, ontology, listed, &mut kept, expression, &mut left)?;
         }
     }
     Ok(kept)

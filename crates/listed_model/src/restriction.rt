@@ -1,28 +1,29 @@
 //! The elements that a property joins to others.
-ghost use Rattle.certificate.specs.View.{pair_row_of, targets_in};
-ghost use Rattle.certificate.specs.declared.listed.PairRow.{PairRow as PairRow2};
+ghost use Rattle.certificate.specs.View.{pair_row_of};
 ghost use Rattle.listed_model.specs.Members.{holds};
 ghost use Rattle.listed_model.specs.Rows.{AreHolders, ArePairRows, IsHolders, IsSourceAmong, Joined};
 ghost use Rattle.number_sets.specs.Pieces.{list_at};
+ghost use Rattle.number_sets.specs.Transposition.{copies};
 ghost use Rattle.std.specs.List.Sorted.{IsStrictlyIncreasing};
-ghost use Rattle.std.specs.Prelude.{◌<◌, ◌≡◌, ◌↔◌, ◌⊎◌, All, IfOk, IfSome, OnOk, length, map, true, ℕ};
+ghost use Rattle.std.specs.Prelude.{◌<◌, ◌≡◌, ◌↔◌, ◌⊎◌, ◌++◌, All, IfOk, IfSome, OnOk, length, map, true, ℕ};
 
 use crate::ascending::{between, put_in_order};
 use crate::meeting::have_common;
 use crate::rows::{end_of, rows_of, start_of};
 use axioms::{Memory, PropId};
 use certificate::PairRow;
-use number_sets::{PackedLists, turned};
+use number_sets::{OpenLists, PackedLists};
 use std::alloc::Global;
 
-fn targets_of_each(alloc: Global, rows: &[PairRow]) -> Result<PackedLists, Memory>
-    ensures { IfOk result (λ lists. lists ≡ map (λ (row : PairRow2). targets_in row.targets) rows.now) }
+// Adds the place at the end of the list of each of the targets.
+fn add_place(lists: &mut OpenLists, targets: &[u32], place: u32) -> Result<(), Memory>
+    ensures len { OnOk result (length lists.new ≡ length lists.old) }
+    ensures each { OnOk result ((y : ℕ) → y < length lists.old → list_at lists.new y ≡ list_at lists.old y ++ copies place y targets.now) }
 {
-    let mut lists = PackedLists::new(alloc);
-    for row in rows {
-        lists.push_list(row.targets.as_slice())?;
+    for target in targets {
+        lists.push(*target as usize, place)?;
     }
-    Ok(lists)
+    Ok(())
 }
 
 /// For each element the places of the rows that have it among their targets, ascending. It fails where memory is refused, or where
@@ -37,8 +38,11 @@ pub(crate) fn holders_of(
     if rows.len() > u32::MAX as usize {
         return Err(Memory);
     }
-    let lists = targets_of_each(alloc, rows)?;
-    Ok(turned(alloc, &lists, domain as usize)?)
+    let mut lists = OpenLists::new(alloc, domain as usize)?;
+    for (place, row) in rows.iter().enumerate() {
+        add_place(&mut lists, row.targets.as_slice(), place as u32)?;
+    }
+    Ok(lists.packed(alloc)?)
 }
 
 // Adds the sources of the rows at the places.

@@ -14,7 +14,7 @@ use Rattle.listed_model.specs.Members.{holds}
 use Rattle.listed_model.specs.Rows.{ArePairRows}
 use Rattle.listed_model.proofs.Extensions.{class_extension, and_elements, some_elements, target_within}
 use Rattle.listed_model.proofs.Given.{class_rows_given, pair_rows_given}
-use Rattle.listed_model.proofs.Held.{kept_is, those_of}
+use Rattle.listed_model.proofs.Held.{those_of}
 use Rattle.listed_model.proofs.Passed.{each_place}
 use Rattle.listed_model.proofs.among.+those_in.Goals as goal
 
@@ -23,7 +23,7 @@ returns-in-Some t c =
     let o = c.args.ontology.now in
     let e = c.args.expression.0 in
     let list = c.in-Some.list.now in
-    let from = kept_is o c.args.listed.now c.args.kept.now e list c.requires.kept c.in-Some.ensures.0 c.in-Some.ensures.1 in
+    let from = c.requires.kept.elements e list c.in-Some.ensures in
     IfOk-weaker c.common.result _ _ (λ v h. those_of o (listed_of c.args.listed.now) e list from c.args.elements.now v.items c.requires.elements.ascending h) c.common.ensures
 
 pub class_among-requires-clause-rows : goal.class_among-requires-clause-rows
@@ -189,3 +189,6 @@ pub unreachable-requires : goal.unreachable-requires
 unreachable-requires t c =
     let (node, g) = slice_get_there c.args.ontology.now.nodes c.args.expression.0 c.requires.there in
     none-some node (c.in-None.ensures.node ∙ g)
+
+pub common-requires : goal.common-requires
+common-requires t c = (c.requires.kept.elements c.args.expression.0 c.in-Some.list.now c.in-Some.ensures).ascending

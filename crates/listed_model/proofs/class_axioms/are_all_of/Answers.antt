@@ -2,7 +2,7 @@ use Rattle.std.proofs.Common.{sym, ◌∙◌, subst}
 use Rattle.std.proofs.lemmas.Slice.Eq.{bytes_eq-Decides}
 use Rattle.certificate.specs.View.{listed_of}
 use Rattle.listed_model.specs.Extensions.{IsExtension}
-use Rattle.listed_model.proofs.Held.{is_all_of, kept_is}
+use Rattle.listed_model.proofs.Held.{is_all_of}
 use Rattle.listed_model.proofs.class_axioms.are_all_of.Goals as goal
 
 pub returns-in-Some : goal.returns-in-Some
@@ -11,7 +11,7 @@ returns-in-Some c =
     let e = c.args.expression.0 in
     let list = c.in-Some.list.now in
     let elements = c.args.elements.now in
-    let from = kept_is o c.args.listed.now c.args.kept.now e list c.requires.kept c.in-Some.ensures.0 c.in-Some.ensures.1 in
+    let from = c.requires.kept.elements e list c.in-Some.ensures in
     let is = is_all_of o (listed_of c.args.listed.now) e list from elements c.requires.elements in
     let decides = bytes_eq-Decides list elements in
     (λ t. is.0 (decides.0 (sym c.eq.ensures ∙ t)), λ q. c.eq.ensures ∙ decides.1 (is.1 q))

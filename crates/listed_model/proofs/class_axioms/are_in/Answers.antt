@@ -3,7 +3,7 @@ use Rattle.std.proofs.lemmas.List.Kept.{AllPairs-from_increasing}
 use Rattle.std.proofs.lemmas.Slice.Eq.{bytes_eq-Decides}
 use Rattle.certificate.specs.View.{listed_of}
 use Rattle.listed_model.specs.Members.{holds}
-use Rattle.listed_model.proofs.Held.{all_are_of, kept_is}
+use Rattle.listed_model.proofs.Held.{all_are_of}
 use Rattle.listed_model.proofs.Said.{same_members}
 use Rattle.listed_model.proofs.class_axioms.are_in.Goals as goal
 
@@ -12,7 +12,7 @@ returns-in-Some c =
     let o = c.args.ontology.now in
     let e = c.args.expression.0 in
     let list = c.in-Some.list.now in
-    let from = kept_is o c.args.listed.now c.args.kept.now e list c.requires.kept c.in-Some.ensures.0 c.in-Some.ensures.1 in
+    let from = c.requires.kept.elements e list c.in-Some.ensures in
     let all = all_are_of o (listed_of c.args.listed.now) e list from c.args.elements.now in
     (λ t. all.0 (sym c.are_within.ensures ∙ t), λ q. c.are_within.ensures ∙ all.1 q)
 
@@ -27,3 +27,6 @@ returns c =
       λ h. c.eq.ensures ∙ decides.1 (value ∙ same_members those elements (AllPairs-from_increasing those said.ascending) (AllPairs-from_increasing elements c.requires.elements.ascending)
           (λ z. (λ m. ((said.members z).0 m).0, λ m. (said.members z).1 (m, h z m)))),
     )
+
+pub are_within-requires : goal.are_within-requires
+are_within-requires c = (c.requires.kept.elements c.args.expression.0 c.in-Some.list.now c.in-Some.ensures).ascending

@@ -2,7 +2,7 @@ use Rattle.std.proofs.Common.{sym, subst}
 use Rattle.std.proofs.lemmas.Result.{IfOk-weaker}
 use Rattle.certificate.specs.View.{listed_of}
 use Rattle.listed_model.specs.Extensions.{IsExtension}
-use Rattle.listed_model.proofs.Held.{all_below, kept_is}
+use Rattle.listed_model.proofs.Held.{all_below}
 use Rattle.listed_model.proofs.class_axioms.is_within.Goals as goal
 
 pub are_in-requires-clause-elements : goal.are_in-requires-clause-elements
@@ -10,13 +10,13 @@ are_in-requires-clause-elements c =
     let o = c.args.ontology.now in
     let sub = c.args.sub.0 in
     let list = c.in-Some.elements.now in
-    all_below o (listed_of c.args.listed.now) sub list (kept_is o c.args.listed.now c.args.kept.now sub list c.requires.kept c.in-Some.ensures.0 c.in-Some.ensures.1)
+    all_below o (listed_of c.args.listed.now) sub list (c.requires.kept.elements sub list c.in-Some.ensures)
 
 pub returns-in-Some : goal.returns-in-Some
 returns-in-Some c =
     let o = c.args.ontology.now in
     let sub = c.args.sub.0 in
-    let from = kept_is o c.args.listed.now c.args.kept.now sub c.in-Some.elements.now c.requires.kept c.in-Some.ensures.0 c.in-Some.ensures.1 in
+    let from = c.requires.kept.elements sub c.in-Some.elements.now c.in-Some.ensures in
     IfOk-weaker c.are_in.result _ _
     (λ v h. (
       λ t x e. h.0 t x ((from.members x).1 e),

@@ -1,7 +1,7 @@
 use Rattle.std.proofs.Common.{sym, subst}
 use Rattle.certificate.specs.View.{listed_of}
 use Rattle.listed_model.specs.Extensions.{IsExtension}
-use Rattle.listed_model.proofs.Held.{apart_of, kept_is, put_of}
+use Rattle.listed_model.proofs.Held.{apart_of, put_of}
 use Rattle.listed_model.proofs.class_axioms.put_apart_of.Goals as goal
 
 pub returns-in-Some-clause-apart : goal.returns-in-Some-clause-apart
@@ -9,7 +9,7 @@ returns-in-Some-clause-apart c =
     let o = c.args.ontology.now in
     let e = c.args.expression.0 in
     let list = c.in-Some.list.now in
-    let from = kept_is o c.args.listed.now c.args.kept.now e list c.requires.kept c.in-Some.ensures.0 c.in-Some.ensures.1 in
+    let from = c.requires.kept.elements e list c.in-Some.ensures in
     apart_of o (listed_of c.args.listed.now) e list from c.args.seen.now c.put_apart.result c.put_apart.ensures.apart
 
 pub returns-in-Some-clause-put : goal.returns-in-Some-clause-put
@@ -17,7 +17,7 @@ returns-in-Some-clause-put c =
     let o = c.args.ontology.now in
     let e = c.args.expression.0 in
     let list = c.in-Some.list.now in
-    let from = kept_is o c.args.listed.now c.args.kept.now e list c.requires.kept c.in-Some.ensures.0 c.in-Some.ensures.1 in
+    let from = c.requires.kept.elements e list c.in-Some.ensures in
     λ t x b. put_of o (listed_of c.args.listed.now) e list from c.args.seen.now c.put_apart.new.seen x (c.put_apart.ensures.put t x b)
 
 pub returns-clause-apart : goal.returns-clause-apart

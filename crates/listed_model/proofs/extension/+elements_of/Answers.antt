@@ -105,3 +105,8 @@ pub unreachable-requires : goal.unreachable-requires
 unreachable-requires t c =
     let (node, g) = slice_get_there c.args.ontology.now.nodes c.args.expression.0 c.requires.there in
     none-some node (c.in-None.ensures.node ∙ g)
+
+pub returns-in-Some : goal.returns-in-Some
+returns-in-Some t c =
+    let e = c.args.expression.0 in
+    subst (IsExtension c.args.ontology.now (listed_of c.args.listed.now) e) (sym c.in_ok-from_slice.ensures.items) (c.requires.kept.elements e c.in-Some.list.now c.in-Some.ensures)

@@ -13,7 +13,7 @@ use Rattle.listed_model.specs.Members.{holds}
 use Rattle.listed_model.specs.Rows.{ArePairRows, IsHolders, Joined}
 use Rattle.listed_model.proofs.Extensions.{class_extension, and_extension, some_extension}
 use Rattle.listed_model.proofs.Given.{class_rows_given, pair_rows_given}
-use Rattle.listed_model.proofs.Held.{kept_is}
+use Rattle.listed_model.proofs.Held.{all_below}
 use Rattle.listed_model.proofs.keeping.few_elements.Goals as goal
 
 pub class_elements-requires : goal.class_elements-requires
@@ -35,7 +35,7 @@ returns-in_ok-those-in-Some-And c =
     let items = c.in-Some-And.operands.items in
     let least = c.in-Some.least in
     let elements = c.in-Some-at.elements.now in
-    let from = kept_is o c.args.listed.now c.args.kept.now least.0 elements c.requires.kept c.in-Some-at.ensures.0 c.in-Some-at.ensures.1 in
+    let from = c.requires.kept.elements least.0 elements c.in-Some-at.ensures in
     let among = Contains-map (λ (e : ExprId). e.0) items least (subst (λ (es : List ExprId). Contains es least) c.deref.ensures.value c.in-Some.ensures) in
     and_extension o c.in-Some-And.ensures.valid l c.requires.listed c.args.expression.0 (expr_numbers items) g least.0 among elements c.in_ok-those-in-Some-And.those.items from
     c.in_ok-those-in-Some-And.ensures
@@ -45,12 +45,12 @@ few_sources-requires-clause-rows c = subst ArePairRows (sym c.deref-in-Some-Some
 
 pub few_sources-requires-clause-holders : goal.few_sources-requires-clause-holders
 few_sources-requires-clause-holders c = λ y h.
-    let filled = kept_is c.args.ontology.now c.args.listed.now c.args.kept.now c.in-Some-Some.filler.0 c.in-Some-at-2.fillers.now c.requires.kept c.in-Some-at-2.ensures.0 c.in-Some-at-2.ensures.1 in
+    let filled = c.requires.kept.elements c.in-Some-Some.filler.0 c.in-Some-at-2.fillers.now c.in-Some-at-2.ensures in
     subst (λ (rows : List PairRow). IsHolders rows y (list_at c.args.kept.now.holders y)) (sym c.deref-in-Some-Some.ensures.value) (c.requires.kept.holders y ((filled.members y).0 h).0)
 
 pub few_sources-requires-clause-fillers : goal.few_sources-requires-clause-fillers
 few_sources-requires-clause-fillers c =
-    (kept_is c.args.ontology.now c.args.listed.now c.args.kept.now c.in-Some-Some.filler.0 c.in-Some-at-2.fillers.now c.requires.kept c.in-Some-at-2.ensures.0 c.in-Some-at-2.ensures.1).ascending
+    (c.requires.kept.elements c.in-Some-Some.filler.0 c.in-Some-at-2.fillers.now c.in-Some-at-2.ensures).ascending
 
 pub returns-in-Some-at-2 : goal.returns-in-Some-at-2
 returns-in-Some-at-2 c =
@@ -61,7 +61,7 @@ returns-in-Some-at-2 c =
     let r = c.in-Some-Some.property.0 in
     let d = c.in-Some-Some.filler.0 in
     let fillers = c.in-Some-at-2.fillers.now in
-    let filled = kept_is o c.args.listed.now c.args.kept.now d fillers c.requires.kept c.in-Some-at-2.ensures.0 c.in-Some-at-2.ensures.1 in
+    let filled = c.requires.kept.elements d fillers c.in-Some-at-2.ensures in
     IfOk-weaker c.few_sources.result _ _
     (λ v said. IfSome_then v said (λ sources h. some_extension o c.in-Some-Some.ensures.valid l c.requires.listed e r d g fillers sources.items filled h.0
     (subst (λ (rows : List PairRow). (x : ℕ) → (holds sources.items x ≡ true) ↔ Joined (map pair_row_of rows) r fillers x) c.deref-in-Some-Some.ensures.value h.1)))
@@ -71,3 +71,9 @@ pub unreachable-requires : goal.unreachable-requires
 unreachable-requires c =
     let (node, g) = slice_get_there c.args.ontology.now.nodes c.args.expression.0 c.requires.there in
     none-some node (c.in-None.ensures.node ∙ g)
+
+pub those_in-requires-clause-elements : goal.those_in-requires-clause-elements
+those_in-requires-clause-elements c =
+    let least = c.in-Some.least.0 in
+    let elements = c.in-Some-at.elements.now in
+    all_below c.args.ontology.now (listed_of c.args.listed.now) least elements (c.requires.kept.elements least elements c.in-Some-at.ensures)
