@@ -22,7 +22,7 @@ pub mod Determined
 pub mod Listings
 pub mod SameReasons
 pub mod Exactness
-pub mod Conversions
+pub mod BothFormats
 pub mod OneSubclass
 pub mod Contradiction
 pub mod OneElement

@@ -12,5 +12,4 @@ pub mod Acceptance
 pub mod SourceVerdicts
 pub mod FoldedListings
 pub mod Soundness
-pub mod Conversions
 pub mod Examples

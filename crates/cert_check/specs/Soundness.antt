@@ -1,14 +1,14 @@
 -- What the checker's yes means: rules keep truth, derivations are true, and acceptable texts are those of what follows.
-use Rattle.std.specs.Prelude.{◌≡◌, ℕ, List, slice_get, IfSome, Some}
+use Rattle.std.specs.Prelude.{◌≡◌, ◌↔◌, ℕ, List, slice_get, IfSome, Some}
 use Rattle.std.specs.declared.option.Option.{Option}
 use Rattle.std.specs.List.{Contains, AllByRecursion}
 use Rattle.interpretation_spec.specs.Interpretation.{Interpretation, IsInterpretation, IsModel}
 use Rattle.axioms.specs.Ontology.{Ontology, Axiom, axiom_trees}
 use Rattle.interpretation_spec.specs.Agreement.{AgreeOn}
-use Rattle.certificate.specs.Certificate.{Conclusion, Line, Listed}
+use Rattle.certificate.specs.Certificate.{Certificate, Conclusion, Line, Listed}
 use Rattle.certificate.specs.declared.line.Rule.{Rule}
 use Rattle.cert_check.specs.Lines.{IsTrueIn, Follows}
-use Rattle.certificate.specs.Writability.{IsListedOf}
+use Rattle.certificate.specs.Writability.{IsListedOf, IsSomeTextOf}
 use Rattle.cert_check.specs.Derivation.{IsDerivation}
 use Rattle.axioms.specs.WellFormedness.{IsOntology}
 use Rattle.cert_check.specs.Acceptance.{IsAcceptable, Says}
@@ -41,6 +41,13 @@ TextsAreDetermined =
     (o : Ontology) → IsOntology o → (taxonomy instances text taxonomy' instances' text' : List ℕ) →
     IsAcceptable o taxonomy instances text → IsAcceptable o taxonomy' instances' text' →
     (taxonomy ≡ taxonomy') × (instances ≡ instances')
+
+-- of two texts of one certificate, as of those in the two formats, both are acceptable or none
+abbrev pub AcceptableInBothFormats : Type 0
+AcceptableInBothFormats =
+    (o : Ontology) (taxonomy instances text other : List ℕ) (certificate : Certificate) →
+    IsSomeTextOf o text certificate → IsSomeTextOf o other certificate →
+    IsAcceptable o taxonomy instances text ↔ IsAcceptable o taxonomy instances other
 
 -- a list of members stands for one interpretation, as far as the names of the ontology go
 abbrev pub ListingsAgree : Type 0

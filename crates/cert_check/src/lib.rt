@@ -4,7 +4,6 @@
 mod checker;
 mod claims;
 mod compare;
-mod conversion;
 mod derivation;
 mod listing;
 mod operands;
@@ -16,13 +15,12 @@ mod theory;
 mod verdict;
 
 pub use certificate::{
-    CertFault, CertWriteFault, Certificate, Claim, ClassRow, Conclusion, Format, Line, Listed,
-    MOST_ELEMENTS, MakeFault, PairRow, Rule, Subject, read_certificate, write_certificate,
+    CertFault, Certificate, Claim, ClassRow, Conclusion, Format, Line, Listed, MOST_ELEMENTS,
+    MakeFault, PairRow, Rule, Subject, read_certificate,
 };
 pub use checker::{check, check_from};
-pub use conversion::{ConvertFault, acceptable_in_both_formats, convert};
 pub use listing::interpretation_of;
 pub use narrowing::narrow;
 pub use source_lines::StreamFault;
-pub use theory::{narrowed_listings, soundness, worked_certificates};
+pub use theory::{acceptable_in_both_formats, narrowed_listings, soundness, worked_certificates};
 pub use verdict::{Reason, Verdict};

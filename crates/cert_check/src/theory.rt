@@ -1,7 +1,7 @@
 //! What an acceptable certificate means.
 ghost use Rattle.cert_check.specs.Examples.{ContradictionIsAccepted, DeniedIsAccepted, OneSubclassIsAccepted, OneSubclassIsAcceptedInFormatTwo, SameAndDifferentIsAccepted};
 ghost use Rattle.cert_check.specs.FoldedListings.{FoldedReasonsAreSame, NarrowedAgreesSame, NarrowedClaimsSame, NarrowedReasonsAreSame};
-ghost use Rattle.cert_check.specs.Soundness.{AcceptableSays, LinesAreTrue, ListingsAgree, RulesKeepTruth, TextsAreDetermined};
+ghost use Rattle.cert_check.specs.Soundness.{AcceptableInBothFormats, AcceptableSays, LinesAreTrue, ListingsAgree, RulesKeepTruth, TextsAreDetermined};
 
 /// Rules keep truth, each line of a derivation is true wherever the axioms hold, acceptable texts are those of what
 /// follows from the axioms, and an ontology has no others.
@@ -11,6 +11,11 @@ pub fn soundness()
     ensures says { AcceptableSays }
     ensures determined { TextsAreDetermined }
     ensures listings { ListingsAgree }
+{}
+
+/// Of two texts of one certificate, as of a text and of what it is converted to, both are acceptable or none.
+pub fn acceptable_in_both_formats()
+    ensures { AcceptableInBothFormats }
 {}
 
 /// Two certificates that are acceptable, the first in both formats, so that what is promised of such can be met, and two by the rules

@@ -2,12 +2,10 @@ pub mod Words
 pub mod Decimals
 pub mod Runs
 pub mod WrittenLines
-pub mod Earlier
 pub mod Laws
 pub mod Many
 pub mod Derivations
 pub mod HeldRows
-pub mod Individuals
 pub mod RowLaws
 pub mod RunReading
 pub mod Whole
@@ -16,14 +14,12 @@ pub mod Ordered
 pub mod LineMeaning
 pub mod RowMeaning
 pub mod Meaning
-pub mod LineTexts
 pub mod OneLine
 pub mod RowLines
 pub mod KeptPremises
 pub mod DerivedLines
 pub mod TakenRows
 pub mod LastRow
-pub mod Seen
 pub mod Rules
 pub mod Parts
 pub mod Successors

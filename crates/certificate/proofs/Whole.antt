@@ -1,36 +1,22 @@
 -- What a whole certificate's lines and rows have to be.
-use Rattle.std.proofs.Common.{◌≡◌, ℕ, ◌<◌, true, List, ◌++◌, length, Option, None, refl, arith, length-append}
+use Rattle.std.proofs.Common.{◌≡◌, ℕ, true, ◌++◌, length, Option, None, refl}
 use Rattle.std.specs.Prelude.{codes, IfSome}
 use Rattle.std.specs.Fmt.{decimal}
 use Rattle.axioms.specs.Ontology.{Ontology}
 use Rattle.certificate.specs.Certificate.{Line, Listed, Certificate}
-use Rattle.certificate.specs.Text.{lettered_number, line_text, line_feed}
-use Rattle.certificate.specs.LineReading.{small_at, conclusion_at, line_at}
+use Rattle.certificate.specs.Text.{lettered_number, line_feed}
+use Rattle.certificate.specs.LineReading.{small_at}
 use Rattle.certificate.specs.Tests.{fits_line, fits_domain}
 use Rattle.certificate.specs.ListedReading.{domain_at}
 use Rattle.certificate.proofs.Laws.{Reads, Anything, behind_reads, such_reads, ended_reads}
 use Rattle.certificate.proofs.Many.{Chain}
-use Rattle.certificate.proofs.Derivations.{IsSmall, small_reads, FitsLine, line_front}
-use Rattle.certificate.proofs.RowLaws.{NoWord, FitsClassAfter, FitsPairsAfter, FitsClaimAfter, AreElementsOfAll}
+use Rattle.certificate.proofs.Derivations.{IsSmall, small_reads, FitsLine}
+use Rattle.certificate.proofs.RowLaws.{FitsClassAfter, FitsPairsAfter, FitsClaimAfter, AreElementsOfAll}
 
 -- ---- lines
 
-abbrev pub NoLine : List ℕ → Type 0
-NoLine rest = NoWord (codes "sub ") rest × NoWord (codes "same i") rest × NoWord (codes "edge ") rest
-
-no_conclusion : (rest : List ℕ) → NoLine rest → conclusion_at rest ≡ None
-unfolding conclusion_at
-no_conclusion rest h = rw (h.0, h.1, h.2) refl
-
-pub no_line : (rest : List ℕ) → NoLine rest → line_at rest ≡ None
-unfolding line_at
-no_line rest h = rw (no_conclusion rest h) refl
-
 abbrev pub FitsLineOf : Ontology → Option Line → Line → Type 0
 FitsLineOf o last line = FitsLine line × (fits_line o line ≡ true)
-
-pub line_follows : (line : Line) → 0 < length (line_text line)
-line_follows line = omega (arith, length-append (line_front line) line_feed)
 
 -- ---- the listed part
 

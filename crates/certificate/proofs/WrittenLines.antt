@@ -1,6 +1,5 @@
 -- Lines with their premises as they are written.
 use Rattle.std.proofs.Common.{◌≡◌, ℕ, ◌+◌, ◌-◌, ◌^◌, ◌<◌, ◌≤◌, true, ltb, ◌&&◌, List, [], ◌∷◌, ◌++◌, length, refl, sym, ap, ap₂, ◌∙◌, subst, arith}
-use Rattle.std.specs.Prelude.{codes}
 use Rattle.std.specs.List.{All, AllByRecursion, list_all, flat_map}
 use Rattle.std.proofs.lemmas.Bool.{ltb-true, lt-ltb, and_parts, and_from}
 use Rattle.std.proofs.lemmas.List.{append-nil, length-append}
@@ -8,7 +7,7 @@ use Rattle.std.proofs.lemmas.List.Concat.{flat_map-append}
 use Rattle.std.proofs.lemmas.List.Elements.{All-from_recursion, recursion_from_All}
 use Rattle.axioms.specs.Ontology.{Ontology}
 use Rattle.certificate.specs.Certificate.{Line, Format, One, Two}
-use Rattle.certificate.specs.Text.{rule_number, lettered_number, spaced_numbers, conclusion_text, axiom_text, line_text, line_feed, written_premises, written, written_from, lines_text}
+use Rattle.certificate.specs.Text.{line_text, written_premises, written, written_from, lines_text}
 use Rattle.certificate.specs.Runs.{distances}
 use Rattle.certificate.specs.Tests.{is_premise, fits_conclusion, fits_axiom, fits_line, are_back, fits_written}
 use Rattle.certificate.specs.TextLines.{next_number}
@@ -23,26 +22,21 @@ HasNumbersAt Two n line = (n < 2 ^ 64) × All (λ p. p < n) line.premises
 
 -- ---- one line
 
-pub written_line_text : (format : Format) (n : ℕ) (line : Line) → conclusion_text line.conclusion ++ lettered_number (codes " K") (rule_number line.rule)
-    ++ axiom_text line.axiom' ++ spaced_numbers (written_premises format n line.premises) ++ line_feed ≡ line_text (written format n line)
-written_line_text One n line = refl
-written_line_text Two n line = refl
-
 pub with_premises : (format : Format) (n : ℕ) (line : Line) → written format n line ≡ record line { premises = written_premises format n line.premises }
 with_premises One n line = refl
 with_premises Two n line = refl
 
 -- a premise of line n that is earlier, of a line that 64 bits count
-abbrev IsBack : ℕ → ℕ → Type 0
+abbrev pub IsBack : ℕ → ℕ → Type 0
 IsBack n p = (1 ≤ p) × (p < n)
 
-premises_back : (n : ℕ) (ps : List ℕ) → AllByRecursion (IsBack n) ps → distances n (distances n ps) ≡ ps
+pub premises_back : (n : ℕ) (ps : List ℕ) → AllByRecursion (IsBack n) ps → distances n (distances n ps) ≡ ps
 premises_back n [] h = refl
 premises_back n (p ∷ ps) h =
     let e : n - (n - p) ≡ p = omega (arith, h.0.0, h.0.1) in
     ap₂ (λ a b. a ∷ b) e (premises_back n ps h.1)
 
-distances_back : (n : ℕ) (ps : List ℕ) → AllByRecursion (IsBack n) ps → AllByRecursion (IsBack n) (distances n ps)
+pub distances_back : (n : ℕ) (ps : List ℕ) → AllByRecursion (IsBack n) ps → AllByRecursion (IsBack n) (distances n ps)
 distances_back n [] h = tt
 distances_back n (p ∷ ps) h =
     let a : 1 ≤ n - p = omega (arith, h.0.0, h.0.1) in
@@ -68,7 +62,7 @@ back_means o n line t =
           (every_weaker (λ d. ltb d n ≡ true) (λ d. d < n) (λ d u. ltb-true d n u) line.premises (every_passes (λ d. ltb d n) line.premises q.1));
     }
 
-premises_pass : (n : ℕ) (ps : List ℕ) → n < 2 ^ 64 → AllByRecursion (IsBack n) ps → list_all is_premise ps ≡ true
+pub premises_pass : (n : ℕ) (ps : List ℕ) → n < 2 ^ 64 → AllByRecursion (IsBack n) ps → list_all is_premise ps ≡ true
 premises_pass n ps counted h =
     passes_every is_premise ps (every_weaker (IsBack n) (λ p. is_premise p ≡ true) (λ p k. premise_tests p (k.0, omega (arith, k.1, counted))) ps h)
 
@@ -181,15 +175,3 @@ pub written_again : (o : Ontology) (format : Format) (n : ℕ) (line : Line) →
 written_again o One n line t h = refl
 written_again o Two n line t h =
     ap (λ (ps : List ℕ). record line { premises = ps }) (premises_back n line.premises (premises_are_back o n line t h))
-
--- ---- premises alone
-
-numbered_back : (n : ℕ) (ps : List ℕ) → list_all is_premise ps ≡ true → All (λ p. p < n) ps → AllByRecursion (IsBack n) ps
-numbered_back n ps t h =
-    every_both (λ p. 1 ≤ p) (λ p. p < n) ps (every_weaker (λ p. is_premise p ≡ true) (λ p. 1 ≤ p) (λ p u. (premise_means p u).0) ps (every_passes is_premise ps t)) (recursion_from_All (λ p. p < n) ps h)
-
-pub distances_pass : (n : ℕ) (ps : List ℕ) → list_all is_premise ps ≡ true → (n < 2 ^ 64) × All (λ p. p < n) ps → list_all is_premise (distances n ps) ≡ true
-distances_pass n ps t h = premises_pass n (distances n ps) h.0 (distances_back n ps (numbered_back n ps t h.1))
-
-pub distances_again : (n : ℕ) (ps : List ℕ) → list_all is_premise ps ≡ true → (n < 2 ^ 64) × All (λ p. p < n) ps → distances n (distances n ps) ≡ ps
-distances_again n ps t h = premises_back n ps (numbered_back n ps t h.1)

@@ -19,6 +19,12 @@ pub data Conclusion : Type 0 where
   Edge : (source : Subject) (property : ℕ) (target : Subject) → Conclusion
   Same : (first second : ℕ) → Conclusion
 
+-- what a line speaks of: the subject, the start of an edge, or the first of two that are one
+abbrev pub source_of : Conclusion → Subject
+source_of (Sub x c) = x
+source_of (Edge x r y) = x
+source_of (Same a b) = Individual a
+
 -- a conclusion by a rule, from an axiom or none and from earlier lines, counted from 1
 pub record Line : Type 0 where
   pub conclusion : Conclusion

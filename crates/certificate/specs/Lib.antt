@@ -11,7 +11,6 @@ pub mod LineReading
 pub mod Tests
 pub mod ListedReading
 pub mod Outcome
-pub mod LineText
 pub mod TextLines
 pub mod Prefixes
 pub mod SourceReading

@@ -6,10 +6,6 @@ use Rattle.certificate.specs.declared.fault.ReadFault.{ReadFault}
 use Rattle.certificate.specs.declared.fault.ReadFault.TheVariants as faults
 use Rattle.certificate.specs.declared.fault.CertFault.{CertFault}
 use Rattle.certificate.specs.declared.fault.CertFault.TheVariants as cert_faults
-use Rattle.certificate.specs.declared.fault.CertWriteFault.{CertWriteFault}
-use Rattle.certificate.specs.declared.fault.CertWriteFault.TheVariants as write_faults
-use Rattle.certificate.specs.Certificate.{Format, Two, Line}
-use Rattle.certificate.specs.Writability.{HasNumbers, IsFirstLater}
 
 -- reading stopped where there is nothing to read, unless memory was refused
 abbrev pub Stops : {Y : Type 0} → ReadFault → Option Y → Type 0
@@ -26,9 +22,3 @@ Gives view (Err e) read = Stops e read
 abbrev pub IsRefused : CertFault → Ontology → List ℕ → Type 0
 IsRefused cert_faults.Memory o bytes = Unit {0}
 IsRefused (cert_faults.BadText at) o bytes = IsNoText o bytes at
-
--- the format has no numbers for the premises: the line of that number is the first with one that is not earlier; by any other fault
--- it has them
-abbrev pub IsLater : Format → List Line → CertWriteFault → Type 0
-IsLater format lines (write_faults.LaterPremise line) = (format ≡ Two) × IsFirstLater lines line
-IsLater format lines _ = HasNumbers format lines

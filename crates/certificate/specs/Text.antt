@@ -129,9 +129,3 @@ is_listed (Some l) = true
 
 abbrev pub certificate_text : Format → Certificate → List ℕ
 certificate_text format c = first_text format (is_listed c.listed) ++ lines_text format 1 c.lines ++ listed_text format c.listed ++ codes "end" ++ line_feed
-
--- ---- the text of a certificate that lists an interpretation, as it grows
-
--- the first line, the lines of the derivation, and the line that counts the elements
-abbrev pub text_to_domain : Format → List Line → ℕ → List ℕ
-text_to_domain format lines domain = first_text format true ++ lines_text format 1 lines ++ (lettered_number (codes "domain ") domain ++ line_feed)

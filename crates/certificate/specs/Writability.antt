@@ -1,9 +1,8 @@
 -- Which certificates have a text in a format: what they name is there, in the order of the text, and their numbers fit.
-use Rattle.std.specs.Prelude.{◌≡◌, ℕ, ◌+◌, ◌-◌, ◌<◌, ◌≤◌, ◌^◌, ◌⊎◌, List, [], ◌∷◌, ◌++◌, map, length, take, Some, None, IfSome}
+use Rattle.std.specs.Prelude.{◌≡◌, ℕ, ◌+◌, ◌<◌, ◌≤◌, ◌^◌, ◌⊎◌, List, [], ◌∷◌, ◌++◌, map, length, Some, None, IfSome}
 use Rattle.std.specs.declared.option.Option.{Option}
 use Rattle.std.specs.List.{All, AllPairs, flat_map, enumerate_from}
 use Rattle.axioms.specs.Ontology.{Ontology, IsClassAt}
-use Rattle.axioms.specs.View.{at_number}
 use Rattle.certificate.specs.Certificate.{Subject, Expression, Individual, Conclusion, Sub, Edge, Same, Line, Listed, Certificate, Format, One, Two}
 use Rattle.certificate.specs.Text.{certificate_text}
 
@@ -90,13 +89,6 @@ certificate_numbers c = flat_map line_numbers c.lines ++ listed_numbers c.listed
 abbrev pub AreEarlier : ℕ → List Line → Type 0
 AreEarlier n [] = Unit {0}
 AreEarlier n (line ∷ lines) = All (λ p. p < n) line.premises × AreEarlier (n + 1) lines
-
--- the line of that number is the first with a premise that is no line before it
-pub record IsFirstLater (lines : List Line) (number : ℕ) : Type 0 where
-  pub others : AreEarlier 1 (take (number - 1) lines)
-  pub line : Line
-  pub there : at_number lines number ≡ Some line
-  pub later : All (λ p. p < number) line.premises → ⊥
 
 -- the format has numbers for the premises: distances only of earlier lines, and these are counted by 64 bits
 abbrev pub HasNumbers : Format → List Line → Type 0

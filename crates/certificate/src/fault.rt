@@ -2,13 +2,11 @@
 
 ghost use Rattle.std.specs.Prelude.{◌≡◌, length};
 ghost use Rattle.certificate.specs.declared.fault.CertFault.TheVariants as cert_faults;
-ghost use Rattle.certificate.specs.declared.fault.CertWriteFault.TheVariants as write_faults;
 ghost use Rattle.certificate.specs.declared.fault.ReadFault.TheVariants as read_faults;
 ghost use Rattle.certificate.specs.declared.fault.TextFault.TheVariants as text_faults;
 ghost use Rattle.certificate.specs.SourceFaults.{stream_fault_as_text};
 
 use axioms::Memory;
-use device::Failed;
 use source_lines::StreamFault;
 use std::alloc::{AllocError, AllocFailed};
 use thiserror::Error;
@@ -41,36 +39,6 @@ impl From<Memory> for CertFault {
 
     fn from(_error: Memory) -> CertFault {
         CertFault::Memory
-    }
-}
-
-/// Why a certificate is not written.
-#[derive(Clone, Copy, Debug, PartialEq, Eq, Error)]
-pub enum CertWriteFault {
-    /// The line of that number, counted from 1, is the first with a premise that is no line before it: it has no text in format 2.
-    #[error("line {line} has a later premise")]
-    LaterPremise { line: usize },
-    /// The sink failed.
-    #[error("the sink failed")]
-    Io,
-    /// A growth of memory was refused.
-    #[error("out of memory")]
-    Memory,
-}
-
-impl From<Failed> for CertWriteFault {
-    ghost from_gives = { λ _ e. e ≡ write_faults.Io };
-
-    fn from(_error: Failed) -> CertWriteFault {
-        CertWriteFault::Io
-    }
-}
-
-impl From<Memory> for CertWriteFault {
-    ghost from_gives = { λ _ e. e ≡ write_faults.Memory };
-
-    fn from(_error: Memory) -> CertWriteFault {
-        CertWriteFault::Memory
     }
 }
 

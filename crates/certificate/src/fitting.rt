@@ -50,7 +50,7 @@ pub(crate) fn fits_axiom(ontology: &Ontology, number: Option<usize>) -> bool
 }
 
 /// Whether the numbers may be those of lines.
-pub(crate) fn are_premises(numbers: &[u64]) -> bool
+pub fn are_premises(numbers: &[u64]) -> bool
     ensures { result ≡ list_all is_premise numbers.now }
 {
     numbers.iter().all(|number| 1 <= *number)

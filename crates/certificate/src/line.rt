@@ -1,6 +1,6 @@
 //! The lines of a derivation.
 
-ghost use Rattle.certificate.specs.LineText.{source_of};
+ghost use Rattle.certificate.specs.Certificate.{source_of};
 ghost use Rattle.certificate.specs.Text.{rule_number};
 ghost use Rattle.certificate.specs.View.{conclusion_of, subject_of};
 ghost use Rattle.std.specs.Prelude.{◌≡◌};

@@ -11,9 +11,10 @@ use crate::documents::ontology_of;
 use axioms::{ExprId, IndId, Memory, Ontology, PropId};
 use certificate::{
     CertFault, Certificate, Claim, Conclusion, Format, FormatOne, FormatTwo, FormatType, Line,
-    LineText, Listed, ListedText, MakeFault, Rule, Subject, certificate_bytes, one_certificate,
-    one_text, read_certificate, texts, there_and_back, write_certificate,
+    Listed, MakeFault, Rule, Subject, one_certificate, one_text, read_certificate, texts,
+    there_and_back,
 };
+use certificate_text::{LineText, ListedText, certificate_bytes, write_certificate};
 use device::BufferSink;
 use readers::{
     LINES, assert_failing_reads, assert_lines, assert_listed_behind_lines, assert_no_readers,

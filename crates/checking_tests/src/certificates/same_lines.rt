@@ -5,8 +5,9 @@ use super::{has_bytes, is_kept, stops_at};
 use crate::documents::ontology_of;
 use axioms::{IndId, Memory, Ontology};
 use certificate::{
-    Certificate, Conclusion, Format, FormatOne, FormatTwo, Line, LineText, MakeFault, Rule, Subject,
+    Certificate, Conclusion, Format, FormatOne, FormatTwo, Line, MakeFault, Rule, Subject,
 };
+use certificate_text::LineText;
 use std::alloc::{AllocError, Global};
 use std::process::Abort;
 use std::random::RandomSource;

@@ -1,0 +1,3 @@
+pub mod LineText
+pub mod LaterPremises
+pub mod Conversions
