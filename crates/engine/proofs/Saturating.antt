@@ -1,5 +1,5 @@
 -- What the forms of an ontology lead to is its closure.
-use Rattle.std.proofs.Common.{◌≡◌, ℕ, ◌<◌, Bool, List, [], ◌∷◌, length, map, Result, Ok, Err, Contains, refl, arith, ap, ◌∙◌, sym, subst}
+use Rattle.std.proofs.Common.{◌≡◌, ℕ, ◌<◌, ◌^◌, List, [], ◌∷◌, length, map, Result, Ok, Err, Contains, refl, arith, ap, ◌∙◌, sym, subst}
 use Rattle.std.proofs.lemmas.List.Elements.{All-nil}
 use Rattle.lemmas.proofs.Members.{slice_get-from_Contains}
 use Rattle.axioms.specs.Ontology.{Ontology}
@@ -19,7 +19,7 @@ use Rattle.normalise.specs.Roots.{AreRoots}
 use Rattle.normalise.proofs.ProblemForms.{makes_the_problem}
 use Rattle.saturate.specs.Growth.{HasGrown, KeepsServed, with_more}
 use Rattle.saturate.specs.Run.{IsState}
-use Rattle.saturate.specs.State.{Seen, AreBorn, nothing_seen}
+use Rattle.saturate.specs.State.{Seen, AreBorn, ended, nothing_seen}
 use Rattle.inference.specs.Completeness.{IsClosure}
 use Rattle.inference.specs.Derivations as derived
 use Rattle.inference.proofs.Growth.{sound}
@@ -49,36 +49,24 @@ says_facts o v s problem born f there =
     said o v.asked (prefixes_of v) s.problem problem f (sound born n f at)
 
 -- the facts of a state by the forms of the ontology and of what is asked about are of their closure
-pub is_sound : (o : Ontology) (v : Listing) (s : Seen) (b : Bool) → IsNormalFor o v → AreAsked o v.asked → s.problem.forms ≡ map form_in v.entries → s.problem.apart ≡ v.apart → IsProblemOf o v.asked (prefixes_of v) s.problem → IsState s
-    → IsSound o (record { normal = v; state = s; can_grow = b })
-is_sound o v s b normal asked forms lists problem state = record { normal = normal; asked = asked; forms = forms; apart = lists; problem = problem; facts = says_facts o v s problem state.born; state = state }
+pub is_sound : (o : Ontology) (v : Listing) (s : Seen) → IsNormalFor o v → AreAsked o v.asked → s.problem.forms ≡ map form_in v.entries → s.problem.apart ≡ v.apart → IsProblemOf o v.asked (prefixes_of v) s.problem → IsState s
+    → IsSound o (record { normal = v; state = s })
+is_sound o v s normal asked forms lists problem state = record { normal = normal; asked = asked; forms = forms; apart = lists; problem = problem; facts = says_facts o v s problem state.born; state = state }
 
 -- in another state of the same problem they are of the closure too
-pub still_sound : (o : Ontology) (v : Listing) (s t : Seen) (b b' : Bool) → IsSound o (record { normal = v; state = s; can_grow = b }) → t.problem ≡ s.problem → IsState t → IsSound o (record { normal = v; state = t; can_grow = b' })
-still_sound o v s t b b' h same state = is_sound o v t b' h.normal h.asked
+pub still_sound : (o : Ontology) (v : Listing) (s t : Seen) → IsSound o (record { normal = v; state = s }) → t.problem ≡ s.problem → IsState t → IsSound o (record { normal = v; state = t })
+still_sound o v s t h same state = is_sound o v t h.normal h.asked
     (ap (λ (k : Problem). k.forms) same ∙ h.forms)
     (ap (λ (k : Problem). k.apart) same ∙ h.apart)
     (subst (IsProblemOf o v.asked (prefixes_of v)) (sym same) h.problem)
     state
 
 -- where they are all that the forms lead to, they are the closure
-pub is_saturated : (o : Ontology) (v : Listing) (s : Seen) (b : Bool) → IsSound o (record { normal = v; state = s; can_grow = b }) → IsClosure s.problem s.facts → IsSaturated o (record { normal = v; state = s; can_grow = b })
-is_saturated o v s b h closure = record { normal = h.normal; asked = h.asked; forms = h.forms; apart = h.apart; problem = h.problem; facts = says_the_closure o v s h.problem closure; state = h.state }
+pub is_saturated : (o : Ontology) (v : Listing) (s : Seen) → IsSound o (record { normal = v; state = s }) → IsClosure s.problem s.facts → length s.facts < 2 ^ 32 → IsSaturated o (record { normal = v; state = ended s })
+is_saturated o v s h closure few = record { normal = h.normal; asked = h.asked; forms = h.forms; apart = h.apart; problem = h.problem; facts = says_the_closure o v s h.problem closure; born = h.state.born; few = few }
 
--- a state with the same problem and facts is saturated too, whichever were served
-pub saturated_still : (o : Ontology) (v : Listing) (s t : Seen) (b b' : Bool) → t.problem ≡ s.problem → t.facts ≡ s.facts → IsState t → IsSaturated o (record { normal = v; state = s; can_grow = b }) → IsSaturated o (record { normal = v; state = t; can_grow = b' })
-saturated_still o v s t b b' problem facts state h = record {
-  normal = h.normal;
-  asked = h.asked;
-  forms = ap (λ (k : Problem). k.forms) problem ∙ h.forms;
-  apart = ap (λ (k : Problem). k.apart) problem ∙ h.apart;
-  problem = subst (IsProblemOf o v.asked (prefixes_of v)) (sym problem) h.problem;
-  facts = subst (SayTheClosure o v.asked (prefixes_of v)) (sym facts) h.facts;
-  state = state;
-}
-
-pub has_more : (o : Ontology) (v : Listing) (s : Seen) (b : Bool) (most : ℕ) → IsSound o (record { normal = v; state = s; can_grow = b }) → derived.HasMoreFactsThan s.problem most → HasMoreFactsThan o v.asked most
-has_more o v s b most h more = more_facts o v.asked (prefixes_of v) s.problem h.problem most more
+pub has_more : (o : Ontology) (v : Listing) (s : Seen) (most : ℕ) → IsSound o (record { normal = v; state = s }) → derived.HasMoreFactsThan s.problem most → HasMoreFactsThan o v.asked most
+has_more o v s most h more = more_facts o v.asked (prefixes_of v) s.problem h.problem most more
 
 abbrev err_or : {T E : Type 0} → E → Result T E → E
 err_or d (Ok x) = d

@@ -1,1 +1,2 @@
 pub mod Saturations
+pub mod Closed

@@ -1,5 +1,5 @@
 -- What a saturation has.
-use Rattle.std.specs.Prelude.{◌≡◌, ◌↔◌, ℕ, ◌<◌, ◌≤◌, Bool, List, [], length, map, Result, Err, OnOk, OnErr}
+use Rattle.std.specs.Prelude.{◌≡◌, ◌↔◌, ℕ, ◌<◌, ◌≤◌, ◌^◌, List, [], length, map, Result, Err, OnOk, OnErr}
 use Rattle.std.specs.List.{All, Contains}
 use Rattle.axioms.specs.Ontology.{Ontology}
 use Rattle.axioms.specs.WellFormedness.{AreDistinct, IsOntology}
@@ -19,17 +19,24 @@ use Rattle.normalise.specs.Problem.{prefixes_of}
 use Rattle.normalise.specs.Roots.{HasMoreNames}
 use Rattle.inference.specs.declared.known_facts.Stop.{Stop}
 use Rattle.inference.specs.declared.known_facts.Stop.TheVariants.{Limit, Memory}
-use Rattle.inference.specs.Derivations.{Keeps}
+use Rattle.inference.specs.Derivations.{IsDerived, Keeps}
 use Rattle.saturate.specs.Growth.{KeepsServed}
 use Rattle.saturate.specs.Requests.{IsAskedAt}
 use Rattle.saturate.specs.Run.{IsPending, IsRun, IsRunUntil, IsState}
-use Rattle.saturate.specs.State.{Seen, Extends}
+use Rattle.saturate.specs.State.{Ended, Seen, Extends, ended}
 
--- normal forms, what they lead to, and whether more may be added
-pub record Saturated : Type 0 where
+-- normal forms, what they lead to so far, and which of it was served
+pub record Saturating : Type 0 where
   pub normal : Listing
   pub state : Seen
-  pub can_grow : Bool
+
+-- normal forms, and facts that they lead to with what gave each, whichever of them were served
+pub record Saturated : Type 0 where
+  pub normal : Listing
+  pub state : Ended
+
+abbrev pub as_ended : Saturating → Saturated
+as_ended s = record { normal = s.normal; state = ended s.state }
 
 -- nothing is asked about
 abbrev pub IsUnasked : Saturated → Type 0
@@ -41,7 +48,7 @@ SayFactsOfTheClosure o asked b facts = (f : code.Fact) → Contains facts f → 
 
 -- the normal forms are those of the ontology and of what is asked about, and the facts are of their closure, each once and with what
 -- gave it, and some of them are served, each once: there may be more
-pub record IsSound (o : Ontology) (s : Saturated) : Type 0 where
+pub record IsSound (o : Ontology) (s : Saturating) : Type 0 where
   pub normal : IsNormalFor o s.normal
   -- what is asked about is there
   pub asked : AreAsked o s.normal.asked
@@ -54,12 +61,12 @@ pub record IsSound (o : Ontology) (s : Saturated) : Type 0 where
   pub state : IsState s.state
 
 -- all facts are served
-abbrev pub IsFinished : Saturated → Type 0
+abbrev pub IsFinished : Saturating → Type 0
 IsFinished s = length s.state.served ≡ length s.state.facts
 
 -- of a sound saturation, as many facts are served as there are exactly where none is pending
 abbrev pub FinishedHasNonePending : Type 0
-FinishedHasNonePending = (o : Ontology) (s : Saturated) → IsSound o s → IsFinished s ↔ ((n : ℕ) → ¬ IsPending s.state n)
+FinishedHasNonePending = (o : Ontology) (s : Saturating) → IsSound o s → IsFinished s ↔ ((n : ℕ) → ¬ IsPending s.state n)
 
 -- the facts over numbers say exactly the facts of the closure of the ontology and of what is asked about
 pub record SayTheClosure (o : Ontology) (asked : List ℕ) (b : Prefixes) (facts : List code.Fact) : Type 0 where
@@ -67,7 +74,7 @@ pub record SayTheClosure (o : Ontology) (asked : List ℕ) (b : Prefixes) (facts
   pub all : (g : Fact) → IsFact o asked g → (f : code.Fact) × Contains facts f × SaysFact b f g
 
 -- the normal forms are those of the ontology and of what is asked about, and the facts all that they lead to, each once and with what
--- gave it, and some of them are served, each once
+-- gave it; 32 bits count them
 pub record IsSaturated (o : Ontology) (s : Saturated) : Type 0 where
   pub normal : IsNormalFor o s.normal
   -- what is asked about is there
@@ -78,7 +85,8 @@ pub record IsSaturated (o : Ontology) (s : Saturated) : Type 0 where
   pub apart : s.state.problem.apart ≡ s.normal.apart
   pub problem : IsProblemOf o s.normal.asked (prefixes_of s.normal) s.state.problem
   pub facts : SayTheClosure o s.normal.asked (prefixes_of s.normal) s.state.facts
-  pub state : IsState s.state
+  pub born : IsDerived s.state.problem (record { facts = s.state.facts; births = s.state.births })
+  pub few : length s.state.facts < 2 ^ 32
 
 -- the closure of the ontology and of what is asked about has more than n facts: a list has so many that differ
 pub record HasMoreFactsThan (o : Ontology) (asked : List ℕ) (n : ℕ) : Type 0 where
@@ -88,11 +96,10 @@ pub record HasMoreFactsThan (o : Ontology) (asked : List ℕ) (n : ℕ) : Type 0
   pub many : n < length facts
 
 -- what a run leads to that may have so many facts, and how it ends
-pub record HasResumed (max_facts : ℕ) (old new : Saturated) (result : Result Unit Stop) : Type 0 where
+pub record HasResumed (max_facts : ℕ) (old new : Saturating) (result : Result Unit Stop) : Type 0 where
   -- the forms are the same, and each fact stays at its place, with what gave it, and is served if it was
   pub normal : new.normal ≡ old.normal
   pub extends : Extends old.state new.state
-  pub can_grow : new.can_grow ≡ old.can_grow
   -- it is a run; or one that was given up, whose last facts are pending
   pub whole : OnOk result (IsRun old.state new.state)
   pub until : OnErr result (IsRunUntil old.state new.state)
@@ -105,9 +112,9 @@ pub record HasResumed (max_facts : ℕ) (old new : Saturated) (result : Result U
   pub idle : IsFinished old → (new ≡ old) × ¬ (result ≡ Err Memory)
 
 -- what such a run of the saturation of the ontology, and of what is asked about, says of their closure
-pub record Saturates (o : Ontology) (max_facts : ℕ) (new : Saturated) (result : Result Unit Stop) : Type 0 where
+pub record Saturates (o : Ontology) (max_facts : ℕ) (new : Saturating) (result : Result Unit Stop) : Type 0 where
   pub sound : IsSound o new
-  pub saturated : OnOk result (IsSaturated o new)
+  pub saturated : OnOk result (IsSaturated o (as_ended new))
   pub limit : result ≡ Err Limit → HasMoreFactsThan o new.normal.asked max_facts
 
 -- each form is equal to one that was there, and so is each list of what is apart, and each context that is there from the start was
@@ -123,7 +130,7 @@ AsksForNoServed old new = (n : ℕ) → Contains old.served n → ¬ IsAskedAt o
 
 -- forms, lists of what is apart, and what fresh names stand for, keep their numbers; facts stay at their places, with what gave them; and
 -- exactly the served facts that a form or a list of disjoint classes asks for to which none was equal before are pending again
-pub record KeepsFacts (old new : Saturated) : Type 0 where
+pub record KeepsFacts (old new : Saturating) : Type 0 where
   pub forms : Grown old.normal new.normal
   pub facts : Keeps old.state.facts new.state.facts
   pub births : Keeps old.state.births new.state.births
@@ -134,7 +141,7 @@ pub record KeepsFacts (old new : Saturated) : Type 0 where
   pub idle : BringsNothing old.state.problem new.state.problem → IsFinished old → IsFinished new
 
 -- the saturation is that of an ontology that had so much, and from which the new one has grown
-pub record Continues (s : Saturated) (lengths : Lengths) (new : Ontology) : Type 0 where
+pub record Continues (s : Saturating) (lengths : Lengths) (new : Ontology) : Type 0 where
   pub old : Ontology
   pub whole : IsOntology old
   pub sound : IsSound old s

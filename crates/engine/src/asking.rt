@@ -3,7 +3,7 @@ ghost use Rattle.axioms.specs.Growth.{Numbers};
 ghost use Rattle.engine.specs.Saturations.{IsFinished, IsSound, KeepsFacts};
 ghost use Rattle.normalise.specs.Growth.{Grows};
 ghost use Rattle.normalise.specs.Roots.{KeepsNames};
-ghost use Rattle.std.specs.Prelude.{◌≡◌, ◌<◌, ℕ, true, IfOk, length};
+ghost use Rattle.std.specs.Prelude.{◌≡◌, ◌<◌, ℕ, IfOk, length};
 
 use crate::saturation::Saturation;
 use axioms::{ExprId, Memory, Ontology};
@@ -24,12 +24,10 @@ impl Saturation {
         requires grows { Grows old.now new.now (length old.now.axioms) }
         requires names { KeepsNames old.now new.now }
         requires there { expr.0 < length new.now.nodes }
-        requires can_grow { self.now.can_grow ≡ true }
         requires finished { IsFinished self.now }
         ensures sound { IfOk result (IsSound new.now) }
         ensures asked { IfOk result (λ s. (n : ℕ) × Numbers self.now.normal.asked expr.0 s.normal.asked n) }
         ensures kept { IfOk result (KeepsFacts self.now) }
-        ensures can_grow { IfOk result (λ s. s.can_grow ≡ true) }
     {
         old.well_formed();
         self.state.well_formed();

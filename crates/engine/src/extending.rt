@@ -1,6 +1,6 @@
 //! Saturations of ontologies that grow.
 ghost use Rattle.engine.specs.Saturations.{Continues, IsSound, KeepsFacts};
-ghost use Rattle.std.specs.Prelude.{◌≡◌, true, OnErr, OnOk};
+ghost use Rattle.std.specs.Prelude.{◌≡◌, OnErr, OnOk};
 
 use crate::saturation::Saturation;
 use axioms::{Lengths, Memory, Ontology};
@@ -17,11 +17,9 @@ impl Saturation {
     /// `Memory` where memory was refused, or there would be 2^32 forms or facts or 2^32 - 1 fresh names of a kind. Then nothing changes.
     pub fn extend(&mut self, old: Lengths, new: &Ontology) -> Result<(), Memory>
         requires grown { Continues self.old old new.now }
-        requires can_grow { self.old.can_grow ≡ true }
         ensures sound { OnOk result (IsSound new.now self.new) }
         ensures kept { OnOk result (KeepsFacts self.old self.new) }
         ensures asked { self.new.normal.asked ≡ self.old.normal.asked }
-        ensures can_grow { self.new.can_grow ≡ true }
         ensures err { OnErr result (self.new ≡ self.old) }
     {
         self.state.well_formed();

@@ -161,6 +161,13 @@ impl KnownFacts {
         &self.births[number as usize]
     }
 
+    /// What gave the facts, in their order.
+    pub fn births(&self) -> &[Birth]
+        ensures { map reason result.now ≡ self.now.births }
+    {
+        &self.births
+    }
+
     /// The facts, and what gave them, without what finds a fact.
     pub fn into_lists(self) -> (Vec<StoredFact>, Vec<Birth>)
         ensures facts { result.0.items ≡ self.facts }

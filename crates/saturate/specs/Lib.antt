@@ -9,4 +9,3 @@ pub mod Growth
 pub mod GoingOn
 pub mod Counts
 pub mod FinishedStates
-pub mod Progress

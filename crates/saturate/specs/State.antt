@@ -16,6 +16,15 @@ pub record Seen : Type 0 where
   pub births : List Reason
   pub served : List ℕ
 
+-- the problem, and facts in order of birth with what gave each, whichever of them were served
+pub record Ended : Type 0 where
+  pub problem : Problem
+  pub facts : List Fact
+  pub births : List Reason
+
+abbrev pub ended : Seen → Ended
+ended s = record { problem = s.problem; facts = s.facts; births = s.births }
+
 -- no forms, no lists, no contexts, no facts
 abbrev pub nothing_seen : Seen
 nothing_seen = record { problem = record { forms = []; apart = no_lists; roots = [] }; facts = []; births = []; served = [] }
@@ -35,8 +44,8 @@ pub record Extends (old new : Seen) : Type 0 where
   pub served : Keeps old.served new.served
 
 -- the reason is one of the fact of that number in older ones
-abbrev pub GaveFact : Seen → ℕ → Reason → Type 0
-GaveFact s n r = (f : Fact) → slice_get s.facts n ≡ Some f → IsBirth s.problem (take n s.facts) f r
+abbrev pub GaveFact : Ended → ℕ → Reason → Type 0
+GaveFact e n r = (f : Fact) → slice_get e.facts n ≡ Some f → IsBirth e.problem (take n e.facts) f r
 
 -- each fact is there once, with a reason in older ones
 abbrev pub AreBorn : Seen → Type 0

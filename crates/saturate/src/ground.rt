@@ -18,7 +18,7 @@ use std::marker::Model;
 /// Normal forms, lists of what is apart and the contexts that are there from the start, with what the forms say of properties, which
 /// individuals they make one, and which edges their chains join.
 #[derive(Drop)]
-pub(crate) struct Ground {
+pub struct Ground {
     problem: IndexedProblem,
     closure: PropertyClosure,
     groups: Groups,
@@ -91,21 +91,21 @@ impl Ground {
     }
 
     /// The forms, lists and contexts.
-    pub(crate) fn problem(&self) -> &IndexedProblem
+    pub fn problem(&self) -> &IndexedProblem
         ensures { result.now ≡ self.now }
     {
         &self.problem
     }
 
     /// What the forms say of properties.
-    pub(crate) fn closure(&self) -> &PropertyClosure
+    pub fn closure(&self) -> &PropertyClosure
         ensures { IsClosureOf self.now.forms result.now }
     {
         &self.closure
     }
 
     /// Which individuals the forms make one.
-    pub(crate) fn groups(&self) -> &Groups
+    pub fn groups(&self) -> &Groups
         ensures { AreGroupsOf self.now.forms result.now }
     {
         &self.groups

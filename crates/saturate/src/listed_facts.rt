@@ -1,7 +1,7 @@
 //! The served facts that speak of a context, by number.
 ghost use Rattle.indexes.specs.FactIndex.{IsFrom, IsIn, IsInto};
 ghost use Rattle.saturate.specs.ServedFacts.{AreExactly, AreNumbersOf};
-ghost use Rattle.std.specs.Prelude.{◌≡◌, IfNone, IfSome, length};
+ghost use Rattle.std.specs.Prelude.{◌≡◌, length};
 
 use crate::state::State;
 use facts::Context;
@@ -15,17 +15,13 @@ impl<W: WorkList> State<W> {
         self.queue.without_hand(self.index.classes_in(context))
     }
 
-    /// The facts that put a class into the context, in the order in which they were served, where all facts are.
-    pub(crate) fn all_classes_in(&self, context: Context) -> Option<&[u32]>
-        ensures some { IfSome result (λ numbers. AreNumbersOf (IsIn context) self.now.facts numbers.now) }
-        ensures none { IfNone result (length self.now.served ≡ length self.now.facts → ⊥) }
+    /// The facts that put a class into the context, in the order in which they were served: all facts were. Needs no memory.
+    pub fn all_classes_in(&self, context: Context) -> &[u32]
+        requires { length self.now.served ≡ length self.now.facts }
+        ensures { AreNumbersOf (IsIn context) self.now.facts result.now }
     {
         self.well_formed();
-        if self.served() == self.facts().len() {
-            Some(self.classes_in(context))
-        } else {
-            None
-        }
+        self.classes_in(context)
     }
 
     /// The served edges from the context, in the order in which they were served. Needs no memory.
@@ -35,17 +31,13 @@ impl<W: WorkList> State<W> {
         self.queue.without_hand(self.index.edges_from(context))
     }
 
-    /// The edges from the context, in the order in which they were served, where all facts are.
-    pub(crate) fn all_edges_from(&self, context: Context) -> Option<&[u32]>
-        ensures some { IfSome result (λ numbers. AreNumbersOf (IsFrom context) self.now.facts numbers.now) }
-        ensures none { IfNone result (length self.now.served ≡ length self.now.facts → ⊥) }
+    /// The edges from the context, in the order in which they were served: all facts were. Needs no memory.
+    pub fn all_edges_from(&self, context: Context) -> &[u32]
+        requires { length self.now.served ≡ length self.now.facts }
+        ensures { AreNumbersOf (IsFrom context) self.now.facts result.now }
     {
         self.well_formed();
-        if self.served() == self.facts().len() {
-            Some(self.edges_from(context))
-        } else {
-            None
-        }
+        self.edges_from(context)
     }
 
     /// The served edges into the context, in the order in which they were served. Needs no memory.

@@ -1,8 +1,8 @@
 //! The state of a saturation.
-ghost use Rattle.std.specs.Prelude.{OnErr, ◌≡◌, ◌↔◌, ◌<◌, ◌≤◌, ◌+◌, ◌^◌, Ok, Err, Some, true, false, [], Contains, drop, length, slice_get, take, IfOk, OnOk, IfSome, IfNone};
+ghost use Rattle.std.specs.Prelude.{OnErr, ◌≡◌, ◌↔◌, ◌<◌, ◌≤◌, ◌+◌, ◌^◌, Ok, Err, Some, true, false, [], Contains, drop, length, slice_get, take, IfOk, OnOk, IfSome, IfNone, map};
 ghost use Rattle.facts.specs.Births.{reason};
 ghost use Rattle.inference.specs.Derivations.{HasMoreFactsThan};
-ghost use Rattle.saturate.specs.State.{Extends, GaveFact, nothing_seen};
+ghost use Rattle.saturate.specs.State.{Extends, GaveFact, ended, nothing_seen};
 ghost use Rattle.saturate.specs.Growth.{HasGrown, KeepsServed};
 ghost use Rattle.saturate.specs.Run.{HasRun, IsLeft, IsState, IsStep};
 ghost use Rattle.inference.specs.PropertyClosures.{IsClosureOf};
@@ -10,8 +10,8 @@ ghost use Rattle.inference.specs.Completeness.{IsClosure};
 ghost use Rattle.normal_forms.specs.Apart.{AreContinuedBy};
 
 use crate::extension::carry_on;
+use crate::finished::Finished;
 use crate::ground::Ground;
-use crate::kept::Kept;
 use crate::queue::Queue;
 use axioms::Memory;
 use facts::{Birth, Context, Fact, FactId, StoredFact};
@@ -191,6 +191,13 @@ impl<W: WorkList> State<W> {
         self.ground.problem().apart()
     }
 
+    /// What the facts are drawn from.
+    pub fn ground(&self) -> &Ground
+        ensures { result.now ≡ self.now.problem }
+    {
+        &self.ground
+    }
+
     /// The closure of the properties.
     pub fn closure(&self) -> &PropertyClosure
         ensures { IsClosureOf self.now.problem.forms result.now }
@@ -205,10 +212,17 @@ impl<W: WorkList> State<W> {
         self.facts.as_slice()
     }
 
+    /// What gave the facts, in their order.
+    pub fn births(&self) -> &[Birth]
+        ensures { map reason result.now ≡ self.now.births }
+    {
+        self.facts.births()
+    }
+
     /// What gave the fact of that number, if there is one: a condition, older facts and a form.
     pub fn born(&self, fact: FactId) -> Option<&Birth>
         ensures reason { IfSome result (λ b. slice_get self.now.births fact.0 ≡ Some (reason b.now)) }
-        ensures gives { IfSome result (λ b. GaveFact self.now fact.0 (reason b.now)) }
+        ensures gives { IfSome result (λ b. GaveFact (ended self.now) fact.0 (reason b.now)) }
         ensures none { IfNone result (length self.now.facts ≤ fact.0) }
     {
         let FactId(number) = fact;
@@ -245,14 +259,12 @@ impl<W: WorkList> State<W> {
         self.facts.len();
     }
 
-    /// What is kept where all facts are served.
-    pub(crate) fn kept(self) -> Kept
+    /// What is left where all facts are served: what only a run needs is let go.
+    pub fn finish(self) -> Finished
     where
         W: Drop,
         requires { length self.served ≡ length self.facts }
-        ensures problem { result.problem ≡ self.problem }
-        ensures facts { result.facts ≡ self.facts }
-        ensures births { result.births ≡ self.births }
+        ensures { result ≡ ended self }
     {
         self.well_formed();
         let State {
@@ -265,7 +277,7 @@ impl<W: WorkList> State<W> {
         drop(queue);
         drop(index);
         let (facts, births) = facts.into_lists();
-        Kept {
+        Finished {
             ground,
             facts,
             births,
