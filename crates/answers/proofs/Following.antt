@@ -1,6 +1,6 @@
 -- What follows from the axioms, by the facts of a saturation.
-use Rattle.std.proofs.Common.{◌↔◌, ℕ, ◌<◌, ◌⊎◌, inl, inr, ⊎_elim, List, length, get_or}
-use Rattle.std.proofs.lemmas.Bool.{cases_eq}
+use Rattle.std.proofs.Common.{◌↔◌, ℕ, ◌<◌, ◌⊎◌, inl, inr, ⊎_elim, List, length, get_or, arith}
+use Rattle.std.proofs.lemmas.Bool.{cases_eq, cases_lt}
 use Rattle.std.proofs.lemmas.Option.{slice_get-get_or}
 use Rattle.std.proofs.lemmas.List.Elements.{All-contains}
 use Rattle.lemmas.proofs.Members.{Contains-from_slice_get}
@@ -18,19 +18,22 @@ use Rattle.exactness.proofs.Exact.{sound_below, sound_nothing, contradiction_sou
 use Rattle.interpretation_spec.specs.Interpretation.{Interpretation, IsBelow, IsMember, IsContradictory}
 use Rattle.normalise.specs.Problem.{prefixes_of}
 use Rattle.engine.specs.Saturations.{Saturated, IsSaturated}
-use Rattle.classification.specs.Contradiction.{IsContradiction}
+use Rattle.explain.specs.Marks.{IsContradictoryFact}
 use Rattle.classification.proofs.Saying.{consistent_by_facts}
 use Rattle.answers.proofs.Deciding.{Decided, some_of}
 use Rattle.answers.proofs.Existing.{has_fact, listed}
 
-is_contradiction : (f : code_fact.Fact) → Decided (IsContradiction f)
-is_contradiction (facts.In (classes.Expr c) (contexts.Expr e)) = ⊎_elim
+is_contradictory : (o : Ontology) (f : code_fact.Fact) → Decided (IsContradictoryFact o f)
+is_contradictory o (facts.In (classes.Expr c) (contexts.Expr e)) = ⊎_elim
     (λ h. ⊎_elim (λ l. inl (h, l)) (λ n. inr (λ b. n b.1)) (cases_eq e.0 thing))
     (λ n. inr (λ b. n b.0))
     (cases_eq c.0 nothing)
-is_contradiction (facts.In (classes.Expr c) (contexts.Individual i)) = cases_eq c.0 nothing
-is_contradiction (facts.In (classes.Partial n) x) = inr (λ b. b)
-is_contradiction (facts.Edge x r y) = inr (λ b. b)
+is_contradictory o (facts.In (classes.Expr c) (contexts.Individual i)) = ⊎_elim
+    (λ h. ⊎_elim (λ l. inl (h, l)) (λ n. inr (λ b. absurd (omega (arith, n, b.1)))) (cases_lt i.0 (length o.names.individuals)))
+    (λ n. inr (λ b. n b.0))
+    (cases_eq c.0 nothing)
+is_contradictory o (facts.In (classes.Partial n) x) = inr (λ b. b)
+is_contradictory o (facts.Edge x r y) = inr (λ b. b)
 
 module _ (o : Ontology) (w : IsOntology o) (s : Saturated) (h : IsSaturated o s) where
   abbrev asked : List ℕ
@@ -41,11 +44,11 @@ module _ (o : Ontology) (w : IsOntology o) (s : Saturated) (h : IsSaturated o s)
 
   pub consistent : Decided (IsConsistent o asked)
   consistent =
-      let by = consistent_by_facts o asked w (prefixes_of s.normal) s.state.facts h.facts in
+      let by = consistent_by_facts o s w h in
       ⊎_elim
-      (λ v. inr (λ c. All-contains (λ f. IsContradiction f → ⊥) s.state.facts v.1 (by.1 c) (Contains-from_slice_get s.state.facts v.0 v.1 v.2) v.3))
+      (λ v. inr (λ c. All-contains (λ f. IsContradictoryFact o f → ⊥) s.state.facts v.1 (by.1 c) (Contains-from_slice_get s.state.facts v.0 v.1 v.2) v.3))
       (λ n. inl (by.0 (λ k d l bad. n (k, get_or s.state.facts k d, slice_get-get_or s.state.facts k d l, bad))))
-      (some_of IsContradiction is_contradiction s.state.facts)
+      (some_of (IsContradictoryFact o) (is_contradictory o) s.state.facts)
 
   -- there is no interpretation exactly where the closure is contradictory
   pub contradictory : IsContradictory (axiom_trees o) ↔ (IsConsistent o asked → ⊥)

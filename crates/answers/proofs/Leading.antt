@@ -15,11 +15,6 @@ module _ (o : Ontology) (asked : List ℕ) where
   least_itself : (a : ℕ) → IsLeast o asked a → least_same o a ≡ a
   least_itself a least = least_unique o asked (turned (same_as_least o asked a)) (is_least o asked a) least
 
-  -- what leads has its own element
-  pub leader_itself : (x : Context) → Leads o asked x → leader o x ≡ x
-  leader_itself (Expression e) leads = refl
-  leader_itself (Individual a) leads = ap Individual (least_itself a leads)
-
   -- what is a fact of the one that leads is a fact of each that it leads
   pub fact_of_leader : (x : Context) (c : Class2) → IsFact o asked (In c (leader o x)) → IsFact o asked (In c x)
   fact_of_leader (Expression e) c h = h

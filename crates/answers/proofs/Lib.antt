@@ -8,7 +8,6 @@ pub mod AnsweredByFacts
 pub mod NamedThings
 pub mod Deriving
 pub mod Refuting
-pub mod Placed
 pub mod Ending
 pub mod Explaining
 pub mod Knowing
@@ -24,3 +23,4 @@ pub mod ListedBelow
 pub mod NamedSides
 pub mod NearestNames
 pub mod Parting
+pub mod Lent

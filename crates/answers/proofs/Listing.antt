@@ -1,5 +1,5 @@
 -- Lists of classes above those that are marked.
-use Rattle.std.proofs.Common.{◌≡◌, ◌↔◌, ◌⊎◌, ◌∙◌, ◌<◌, ◌+◌, ℕ, List, [], ◌∷◌, ◌++◌, Bool, true, IfOk, IfSome, Option, Some, None, Result, Ok, Err, Contains, inl, inr, ⊎_elim, length, take, slice_get, sym, ap, subst}
+use Rattle.std.proofs.Common.{◌≡◌, ◌↔◌, ◌⊎◌, ◌∙◌, ◌<◌, ◌+◌, ℕ, List, [], ◌∷◌, ◌++◌, Bool, true, Some, Contains, inl, inr, ⊎_elim, length, take, slice_get, sym, ap, subst}
 use Rattle.std.proofs.lemmas.List.{length-append}
 use Rattle.std.proofs.lemmas.List.Elements.{Contains-append_left, Contains-append_right, Contains-append_cases}
 use Rattle.std.proofs.lemmas.Option.{same_Some, slice_get_within}
@@ -22,14 +22,6 @@ use Rattle.taxonomy.specs.Relation.{is_listed}
 use Rattle.answers.specs.Names.{IsMarked}
 use Rattle.answers.specs.Neighbours.{PutsMarked, PutsOneBelow}
 use Rattle.answers.proofs.Grouping.{listed_is}
-
--- ---- by all facts
-
-pub unmarked_puts : (o : Ontology) (marks : List Bool) (fact : Fact) (c d : ℕ) → PutsBelow o fact c d → (IsMarked marks c → ⊥) → (c' d' : ℕ) → PutsMarked o marks fact c' d' → ⊥
-unmarked_puts o marks fact c d puts other c' d' (mark, there) = other (subst (IsMarked marks) (puts_below_once o fact c d puts c' d' there).0 mark)
-
-pub puts_marked_once : (o : Ontology) (marks : List Bool) (fact : Fact) (c d : ℕ) → PutsMarked o marks fact c d → (c' d' : ℕ) → PutsMarked o marks fact c' d' → (c' ≡ c) × (d' ≡ d)
-puts_marked_once o marks fact c d puts c' d' other = puts_below_once o fact c d puts.1 c' d' other.1
 
 pub listed_within : (o : Ontology) → IsOntology o → (marks : List Bool) (facts : List Fact) (lists : List (List ℕ)) → AreListsBy (PutsMarked o marks) (length o.names.classes) facts lists
     → (c d : ℕ) → is_listed lists c d ≡ true → d < length o.names.classes
@@ -102,11 +94,6 @@ above_by_context o w facts class e at numbers are d = (
 -- the list has exactly the classes that a fact puts above the class, where it is marked
 abbrev pub IsListOf : Ontology → List Bool → List Fact → ℕ → List ℕ → Type 0
 IsListOf o marks facts c list = (d : ℕ) → Contains list d ↔ SomeFact facts (λ fact. PutsMarked o marks fact c d)
-
-pub some_weaker : {T E : Type 0} (P Q : T → Type 0) → ((v : T) → P v → Q v) → (r : Result (Option T) E) → IfOk r (λ found. IfSome found P) → IfOk r (λ found. IfSome found Q)
-some_weaker P Q f (Ok (Some v)) p = f v p
-some_weaker P Q f (Ok None) p = tt
-some_weaker P Q f (Err e) p = tt
 
 module _ (o : Ontology) (marks : List Bool) (facts : List Fact) where
   -- the lists of the first k classes

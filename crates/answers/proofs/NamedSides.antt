@@ -1,5 +1,5 @@
 -- Marks on the classes above and below a class, by its name.
-use Rattle.std.proofs.Common.{◌≡◌, ◌↔◌, ℕ, ◌<◌, Bool, List, Result, Ok, Err, IfOk, length, sym, subst, subst₂}
+use Rattle.std.proofs.Common.{◌≡◌, ◌↔◌, ℕ, ◌<◌, Bool, List, Result, Ok, Err, IfOk, length, sym, subst}
 use Rattle.axioms.specs.Expression.{ClassExpression, Iri, Named}
 use Rattle.axioms.specs.Ontology.{Ontology, axiom_trees, expression}
 use Rattle.axioms.specs.declared.ids.ExprId.{ExprId}
@@ -48,13 +48,13 @@ module _ (o : Ontology) (class : Iri) (e : ExprId) (named : IsClassNamed o class
       strictly_above long exact = marks_apart o.names.classes (LiesBelow o class) (λ name. LiesBelow o name class) above below left over under long exact
 
       -- the names that are marked on both sides are those of the same classes
-      pub same_names : length left ≡ length above → ((n : ℕ) → n < length above → IsMarked left n ↔ (IsMarked above n × IsMarked below n)) → (names : List Iri) → names ≡ o.names.classes → (shown : List Bool) → shown ≡ left
-          → (answer : List Iri) → AreThose names (HasMark names shown) answer → AreThose o.names.classes (AreSame o class) answer
-      same_names long exact names is shown alike answer those =
+      pub same_names : length left ≡ length above → ((n : ℕ) → n < length above → IsMarked left n ↔ (IsMarked above n × IsMarked below n)) → (shown : List Bool) → shown ≡ left
+          → (answer : List Iri) → AreThose o.names.classes (HasMark o.names.classes shown) answer → AreThose o.names.classes (AreSame o class) answer
+      same_names long exact shown alike answer those =
           let classes = o.names.classes in
           let both = marks_both classes (LiesBelow o class) (λ name. LiesBelow o name class) above below left over under long exact in
           those_same classes answer (HasMark classes left) (AreSame o class) (mark_tells classes left (AreSame o class) both.exact)
-          (subst₂ (λ (xs : List Iri) (ms : List Bool). AreThose xs (HasMark xs ms) answer) is alike those)
+          (subst (λ (ms : List Bool). AreThose classes (HasMark classes ms) answer) alike those)
 
     pub strictly_below : (below : List Bool) → AreMarksOf o.names.classes (FollowsFor o (Below e)) below → length left ≡ length below
         → ((n : ℕ) → n < length below → IsMarked left n ↔ (IsMarked below n × (IsMarked above n → ⊥))) → AreMarksOf o.names.classes (IsNearer o sides.Below class) left

@@ -7,7 +7,7 @@ use Rattle.cert_check.specs.Acceptance.{IsTop}
 use Rattle.certificate.specs.Certificate.{Conclusion, Line, Subject, Sub}
 use Rattle.certificate.specs.declared.line.Rule.TheVariants.{K3}
 use Rattle.closure.specs.Closure.{Context, In, IsFact}
-use Rattle.exactness.specs.ListedInterpretation.{AreSatisfiableContexts, IsListedInterpretation, AgreesWithClosure}
+use Rattle.exactness.specs.ListedInterpretation.{IsListedInterpretation, AgreesWithClosure}
 use Rattle.generated_part.specs.GeneratedPart.{IsGenerated}
 use Rattle.interpretation_spec.specs.NamedInterpretation.{interpretation_of}
 use Rattle.interpretation_spec.specs.Interpretation.{Interpretation, IsModel}
@@ -33,10 +33,6 @@ IsRefutable o asked x class = (IsFact o asked (In (Whole nothing) x) → ⊥) ×
 -- what lies in owl:Nothing lies in the class, by the line of that number
 abbrev pub line_from_nothing : Subject → ℕ → ℕ → Line
 line_from_nothing subject class number = record { conclusion = Sub subject class; rule = K3; axiom' = None; premises = number ∷ [] }
-
--- the context's element has that number in the interpretation that the closure lists
-abbrev pub IsElementOf : Ontology → List ℕ → Context → ℕ → Type 0
-IsElementOf o asked x m = (elements : List Context) → AreSatisfiableContexts o asked elements → slice_get elements m ≡ Some (leader o x)
 
 -- the part of the interpretation that the closure lists that is reached from the context's own element, which has that number in it
 pub record IsPartFor (o : Ontology) (asked : List ℕ) (x : Context) (part : NumberedInterpretation) (new : ℕ) : Type 0 where

@@ -2,7 +2,7 @@
 ghost use Rattle.closure.specs.Closure.{Expression, IsRoot};
 ghost use Rattle.exactness.specs.ListedInterpretation.{IsConsistent};
 ghost use Rattle.closure.specs.Denotations.{context_of};
-ghost use Rattle.engine.specs.Saturations.{IsSaturated, IsUnasked};
+ghost use Rattle.engine.specs.Saturations.{IsUnasked};
 ghost use Rattle.answers.specs.Explanations.{Explains, IsKnown};
 ghost use Rattle.answers.specs.Findings.{ExplainsOf};
 ghost use Rattle.std.specs.Prelude.{◌↔◌, Contains, IfOk, IfSome, IsSome};
@@ -12,11 +12,10 @@ use crate::derived::{derivation_of, derived_contradiction};
 use crate::explanation::Explanation;
 use crate::named::{class_named, subject_named};
 use crate::refuted::part_for;
-use axioms::{ExprId, Memory, Ontology};
+use axioms::{ExprId, Memory};
 use classification::is_consistent;
-use engine::Saturation;
+use engine::Indexed;
 use facts::Context;
-use std::alloc::Global;
 
 /// Whether, and why, the subject is in the class, where there is an interpretation of the axioms.
 ///
@@ -24,24 +23,22 @@ use std::alloc::Global;
 ///
 /// `Memory` where memory was refused, or 32 bits do not count the facts.
 fn explanation_where_consistent(
-    alloc: Global,
-    ontology: &Ontology,
-    saturation: &Saturation,
+    indexed: &Indexed<'_>,
     subject: Context,
     class: ExprId,
 ) -> Result<Explanation, Memory>
-    requires saturated { IsSaturated ontology.now saturation.now }
-    requires unasked { IsUnasked saturation.now }
-    requires consistent { IsConsistent ontology.now saturation.now.normal.asked }
-    requires subject { IsRoot ontology.now saturation.now.normal.asked (context_of subject) }
-    requires class { IsRoot ontology.now saturation.now.normal.asked (Expression class.0) }
-    ensures { IfOk result (ExplainsOf ontology.now (context_of subject) class.0) }
+    requires unasked { IsUnasked indexed.now.saturation }
+    requires consistent { IsConsistent indexed.now.ontology indexed.now.saturation.normal.asked }
+    requires subject { IsRoot indexed.now.ontology indexed.now.saturation.normal.asked (context_of subject) }
+    requires class { IsRoot indexed.now.ontology indexed.now.saturation.normal.asked (Expression class.0) }
+    ensures { IfOk result (ExplainsOf indexed.now.ontology (context_of subject) class.0) }
 {
-    ontology.well_formed();
-    match derivation_of(alloc, ontology, saturation, subject, class)? {
+    let closed = indexed.closed();
+    closed.well_formed();
+    match derivation_of(indexed, subject, class)? {
         Some(lines) => Ok(Explanation::Yes(lines)),
         None => {
-            let (part, element) = part_for(alloc, ontology, saturation, subject)?;
+            let (part, element) = part_for(indexed, subject)?;
             part.well_formed();
             Ok(Explanation::No(part, element))
         }
@@ -54,22 +51,19 @@ fn explanation_where_consistent(
 ///
 /// `Memory` where memory was refused, or 32 bits do not count the facts.
 fn explanation_of(
-    alloc: Global,
-    ontology: &Ontology,
-    saturation: &Saturation,
+    indexed: &Indexed<'_>,
     subject: Context,
     class: ExprId,
 ) -> Result<Explanation, Memory>
-    requires saturated { IsSaturated ontology.now saturation.now }
-    requires unasked { IsUnasked saturation.now }
-    requires subject { IsRoot ontology.now saturation.now.normal.asked (context_of subject) }
-    requires class { IsRoot ontology.now saturation.now.normal.asked (Expression class.0) }
-    ensures { IfOk result (ExplainsOf ontology.now (context_of subject) class.0) }
+    requires unasked { IsUnasked indexed.now.saturation }
+    requires subject { IsRoot indexed.now.ontology indexed.now.saturation.normal.asked (context_of subject) }
+    requires class { IsRoot indexed.now.ontology indexed.now.saturation.normal.asked (Expression class.0) }
+    ensures { IfOk result (ExplainsOf indexed.now.ontology (context_of subject) class.0) }
 {
-    if is_consistent(ontology, saturation) {
-        explanation_where_consistent(alloc, ontology, saturation, subject, class)
+    if is_consistent(indexed) {
+        explanation_where_consistent(indexed, subject, class)
     } else {
-        let lines = derived_contradiction(alloc, ontology, saturation)?;
+        let lines = derived_contradiction(indexed.closed())?;
         Ok(Explanation::Contradictory(lines))
     }
 }
@@ -81,23 +75,19 @@ fn explanation_of(
 ///
 /// `Memory` where memory was refused, or 32 bits do not count the facts.
 pub fn explained(
-    alloc: Global,
-    ontology: &Ontology,
-    saturation: &Saturation,
+    indexed: &Indexed<'_>,
     asked: Asked<'_>,
     class: &str,
 ) -> Result<Option<Explanation>, Memory>
-    requires saturated { IsSaturated ontology.now saturation.now }
-    requires unasked { IsUnasked saturation.now }
-    ensures known { IfOk result (λ answer. IsSome answer ↔ (IsKnown ontology.now asked.entry × Contains ontology.now.names.classes class.now)) }
-    ensures explains { IfOk result (λ answer. IfSome answer (Explains ontology.now asked.entry class.now)) }
+    requires unasked { IsUnasked indexed.now.saturation }
+    ensures known { IfOk result (λ answer. IsSome answer ↔ (IsKnown indexed.now.ontology asked.entry × Contains indexed.now.ontology.names.classes class.now)) }
+    ensures explains { IfOk result (λ answer. IfSome answer (Explains indexed.now.ontology asked.entry class.now)) }
 {
-    ontology.well_formed();
-    let Some(subject) = subject_named(ontology, asked) else {
+    let Some(subject) = subject_named(indexed, asked) else {
         return Ok(None);
     };
-    let Some(class) = class_named(ontology, class) else {
+    let Some(class) = class_named(indexed, class) else {
         return Ok(None);
     };
-    Ok(Some(explanation_of(alloc, ontology, saturation, subject, class)?))
+    Ok(Some(explanation_of(indexed, subject, class)?))
 }

@@ -3,16 +3,14 @@ ghost use Rattle.answers.specs.Questions.{FollowsFor, expression_asked, names_as
 ghost use Rattle.answers.specs.Entailment.{BelongsTo, LiesBelow};
 ghost use Rattle.answers.specs.Names.{AreThose};
 ghost use Rattle.closure.specs.Closure.{Expression, IsRoot};
-ghost use Rattle.engine.specs.Saturations.{IsSaturated};
 ghost use Rattle.std.specs.Prelude.{◌↔◌, ◌≡◌, Contains, IfOk, IfSome, IsSome, map, string_bytes};
 
 use crate::marks::marks_of;
 use crate::named::class_named;
 use crate::names::names_in_order;
 use crate::question::Question;
-use axioms::{Memory, Ontology};
-use engine::Saturation;
-use std::alloc::Global;
+use axioms::Memory;
+use engine::Indexed;
 
 /// The names that answer a question about an expression that is a named class or is asked about in the saturation, in byte order. In
 /// an ontology that no finite interpretation has, these are all names. The names are those of the ontology's classes, or of its
@@ -22,21 +20,19 @@ use std::alloc::Global;
 ///
 /// `Memory` where memory was refused.
 pub fn answers<'a>(
-    alloc: Global,
     names: &'a [String],
-    ontology: &Ontology,
-    saturation: &Saturation,
+    indexed: &Indexed<'_>,
     question: Question,
 ) -> Result<Vec<&'a str>, Memory>
-    requires saturated { IsSaturated ontology.now saturation.now }
-    requires root { IsRoot ontology.now saturation.now.normal.asked (Expression (expression_asked question)) }
-    requires names { map string_bytes names.now ≡ names_asked ontology.now question }
+    requires root { IsRoot indexed.now.ontology indexed.now.saturation.normal.asked (Expression (expression_asked question)) }
+    requires names { map string_bytes names.now ≡ names_asked indexed.now.ontology question }
     ensures { IfOk result
-        (λ v. AreThose (names_asked ontology.now question) (FollowsFor ontology.now question) (map (λ s. s.now) v.items)) }
+        (λ v. AreThose (names_asked indexed.now.ontology question) (FollowsFor indexed.now.ontology question) (map (λ s. s.now) v.items)) }
 {
-    ontology.well_formed();
-    let marks = marks_of(alloc, ontology, saturation, question, names.len())?;
-    names_in_order(alloc, names, &marks)
+    let closed = indexed.closed();
+    closed.well_formed();
+    let marks = marks_of(indexed, question, names.len())?;
+    names_in_order(closed.allocator(), names, &marks)
 }
 
 /// The IRIs of the named classes that lie above the class in every finite interpretation in which the axioms hold, in byte
@@ -46,22 +42,17 @@ pub fn answers<'a>(
 /// # Errors
 ///
 /// `Memory` where memory was refused.
-pub fn superclasses<'a>(
-    alloc: Global,
-    ontology: &'a Ontology,
-    saturation: &Saturation,
-    class: &str,
-) -> Result<Option<Vec<&'a str>>, Memory>
-    requires { IsSaturated ontology.now saturation.now }
-    ensures known { IfOk result (λ answer. IsSome answer ↔ Contains ontology.now.names.classes class.now) }
+pub fn superclasses<'a>(indexed: &Indexed<'a>, class: &str) -> Result<Option<Vec<&'a str>>, Memory>
+    ensures known { IfOk result (λ answer. IsSome answer ↔ Contains indexed.now.ontology.names.classes class.now) }
     ensures exact { IfOk result (λ answer. IfSome answer
-        (λ v. AreThose ontology.now.names.classes (LiesBelow ontology.now class.now) (map (λ s. s.now) v.items))) }
+        (λ v. AreThose indexed.now.ontology.names.classes (LiesBelow indexed.now.ontology class.now) (map (λ s. s.now) v.items))) }
 {
-    let Some(class) = class_named(ontology, class) else {
+    let Some(class) = class_named(indexed, class) else {
         return Ok(None);
     };
     let question = Question::Above(class);
-    let names = answers(alloc, ontology.classes(), ontology, saturation, question)?;
+    let classes = indexed.closed().ontology().classes();
+    let names = answers(classes, indexed, question)?;
     Ok(Some(names))
 }
 
@@ -72,22 +63,17 @@ pub fn superclasses<'a>(
 /// # Errors
 ///
 /// `Memory` where memory was refused.
-pub fn subclasses<'a>(
-    alloc: Global,
-    ontology: &'a Ontology,
-    saturation: &Saturation,
-    class: &str,
-) -> Result<Option<Vec<&'a str>>, Memory>
-    requires { IsSaturated ontology.now saturation.now }
-    ensures known { IfOk result (λ answer. IsSome answer ↔ Contains ontology.now.names.classes class.now) }
+pub fn subclasses<'a>(indexed: &Indexed<'a>, class: &str) -> Result<Option<Vec<&'a str>>, Memory>
+    ensures known { IfOk result (λ answer. IsSome answer ↔ Contains indexed.now.ontology.names.classes class.now) }
     ensures exact { IfOk result (λ answer. IfSome answer
-        (λ v. AreThose ontology.now.names.classes (λ name. LiesBelow ontology.now name class.now) (map (λ s. s.now) v.items))) }
+        (λ v. AreThose indexed.now.ontology.names.classes (λ name. LiesBelow indexed.now.ontology name class.now) (map (λ s. s.now) v.items))) }
 {
-    let Some(class) = class_named(ontology, class) else {
+    let Some(class) = class_named(indexed, class) else {
         return Ok(None);
     };
     let question = Question::Below(class);
-    let names = answers(alloc, ontology.classes(), ontology, saturation, question)?;
+    let classes = indexed.closed().ontology().classes();
+    let names = answers(classes, indexed, question)?;
     Ok(Some(names))
 }
 
@@ -98,22 +84,16 @@ pub fn subclasses<'a>(
 /// # Errors
 ///
 /// `Memory` where memory was refused.
-pub fn instances<'a>(
-    alloc: Global,
-    ontology: &'a Ontology,
-    saturation: &Saturation,
-    class: &str,
-) -> Result<Option<Vec<&'a str>>, Memory>
-    requires { IsSaturated ontology.now saturation.now }
-    ensures known { IfOk result (λ answer. IsSome answer ↔ Contains ontology.now.names.classes class.now) }
+pub fn instances<'a>(indexed: &Indexed<'a>, class: &str) -> Result<Option<Vec<&'a str>>, Memory>
+    ensures known { IfOk result (λ answer. IsSome answer ↔ Contains indexed.now.ontology.names.classes class.now) }
     ensures exact { IfOk result (λ answer. IfSome answer
-        (λ v. AreThose ontology.now.names.individuals (λ name. BelongsTo ontology.now name class.now) (map (λ s. s.now) v.items))) }
+        (λ v. AreThose indexed.now.ontology.names.individuals (λ name. BelongsTo indexed.now.ontology name class.now) (map (λ s. s.now) v.items))) }
 {
-    let Some(class) = class_named(ontology, class) else {
+    let Some(class) = class_named(indexed, class) else {
         return Ok(None);
     };
     let question = Question::Members(class);
-    let individuals = ontology.individuals();
-    let names = answers(alloc, individuals, ontology, saturation, question)?;
+    let individuals = indexed.closed().ontology().individuals();
+    let names = answers(individuals, indexed, question)?;
     Ok(Some(names))
 }

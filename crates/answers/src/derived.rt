@@ -8,16 +8,15 @@ ghost use Rattle.closure.specs.Closure.{Expression, In, IsFact, IsRoot};
 ghost use Rattle.exactness.specs.ListedInterpretation.{IsConsistent};
 ghost use Rattle.exactness.specs.Derivability.{subject_of as subject_by};
 ghost use Rattle.closure.specs.Denotations.{context_of};
-ghost use Rattle.engine.specs.Saturations.{IsSaturated};
 ghost use Rattle.explain.specs.Needs.{ShowsContradiction as SaysContradiction};
 ghost use Rattle.normal_forms.specs.Forms.{Whole};
 ghost use Rattle.answers.specs.Explanations.{Derives, ShowsContradiction};
 ghost use Rattle.answers.specs.Findings.{IsContradiction, IsLineWith, IsRefutable, line_from_nothing};
 ghost use Rattle.std.specs.Prelude.{◌≡◌, ◌++◌, ◌∷◌, ◌↔◌, [], IfOk, IsTrue, MatchOption, length};
 
-use axioms::{ExprId, Memory, Ontology};
+use axioms::{ExprId, Memory};
 use certificate::{Conclusion, Line, Rule, Subject};
-use engine::Saturation;
+use engine::{Closed, Indexed};
 use explain::{contradiction, lines_of, trimmed};
 use facts::Context;
 use std::alloc::Global;
@@ -123,19 +122,18 @@ fn with_class(
 
 /// A derivation that ends in that the subject lies in the class, where that is a fact.
 fn derivation_by_fact(
-    alloc: Global,
-    ontology: &Ontology,
-    saturation: &Saturation,
+    indexed: &Indexed<'_>,
     subject: Context,
     class: ExprId,
 ) -> Result<Option<Vec<Line>>, Memory>
-    requires saturated { IsSaturated ontology.now saturation.now }
-    requires subject { IsRoot ontology.now saturation.now.normal.asked (context_of subject) }
-    requires class { IsRoot ontology.now saturation.now.normal.asked (Expression class.0) }
-    ensures { IfOk result (λ found. MatchOption found (IsFact ontology.now saturation.now.normal.asked (In (Whole class.0) (context_of subject)) → ⊥)
-        (λ v. Derives ontology.now (Sub (subject_by (context_of subject)) class.0) (lines_of v.items))) }
+    requires subject { IsRoot indexed.now.ontology indexed.now.saturation.normal.asked (context_of subject) }
+    requires class { IsRoot indexed.now.ontology indexed.now.saturation.normal.asked (Expression class.0) }
+    ensures { IfOk result (λ found. MatchOption found (IsFact indexed.now.ontology indexed.now.saturation.normal.asked (In (Whole class.0) (context_of subject)) → ⊥)
+        (λ v. Derives indexed.now.ontology (Sub (subject_by (context_of subject)) class.0) (lines_of v.items))) }
 {
-    match lines_of(alloc, ontology, saturation, subject, class)? {
+    let closed = indexed.closed();
+    let alloc = closed.allocator();
+    match lines_of(indexed, subject, class)? {
         Some(lines) => left_for(alloc, &lines, Conclusion::Sub(subject_of(subject), class)),
         None => Ok(None),
     }
@@ -147,23 +145,22 @@ fn derivation_by_fact(
 ///
 /// `Memory` where memory was refused, or 32 bits do not count the facts.
 pub(crate) fn derivation_of(
-    alloc: Global,
-    ontology: &Ontology,
-    saturation: &Saturation,
+    indexed: &Indexed<'_>,
     subject: Context,
     class: ExprId,
 ) -> Result<Option<Vec<Line>>, Memory>
-    requires saturated { IsSaturated ontology.now saturation.now }
-    requires subject { IsRoot ontology.now saturation.now.normal.asked (context_of subject) }
-    requires class { IsRoot ontology.now saturation.now.normal.asked (Expression class.0) }
-    ensures { IfOk result (λ found. MatchOption found (IsRefutable ontology.now saturation.now.normal.asked (context_of subject) class.0)
-        (λ v. Derives ontology.now (Sub (subject_by (context_of subject)) class.0) (lines_of v.items))) }
+    requires subject { IsRoot indexed.now.ontology indexed.now.saturation.normal.asked (context_of subject) }
+    requires class { IsRoot indexed.now.ontology indexed.now.saturation.normal.asked (Expression class.0) }
+    ensures { IfOk result (λ found. MatchOption found (IsRefutable indexed.now.ontology indexed.now.saturation.normal.asked (context_of subject) class.0)
+        (λ v. Derives indexed.now.ontology (Sub (subject_by (context_of subject)) class.0) (lines_of v.items))) }
 {
-    ontology.well_formed();
-    if let Some(lines) = derivation_by_fact(alloc, ontology, saturation, subject, class)? {
+    let closed = indexed.closed();
+    let alloc = closed.allocator();
+    closed.well_formed();
+    if let Some(lines) = derivation_by_fact(indexed, subject, class)? {
         return Ok(Some(lines));
     }
-    match derivation_by_fact(alloc, ontology, saturation, subject, ExprId::NOTHING)? {
+    match derivation_by_fact(indexed, subject, ExprId::NOTHING)? {
         Some(lines) => Ok(Some(with_class(alloc, lines, subject_of(subject), class)?)),
         None => Ok(None),
     }
@@ -174,17 +171,13 @@ pub(crate) fn derivation_of(
 /// # Errors
 ///
 /// `Memory` where memory was refused, or 32 bits do not count the facts.
-pub(crate) fn derived_contradiction(
-    alloc: Global,
-    ontology: &Ontology,
-    saturation: &Saturation,
-) -> Result<Vec<Line>, Memory>
-    requires saturated { IsSaturated ontology.now saturation.now }
-    requires contradictory { IsConsistent ontology.now saturation.now.normal.asked → ⊥ }
-    ensures { IfOk result (λ v. ShowsContradiction ontology.now (lines_of v.items)) }
+pub(crate) fn derived_contradiction(closed: &Closed<'_>) -> Result<Vec<Line>, Memory>
+    requires contradictory { IsConsistent closed.now.ontology closed.now.saturation.normal.asked → ⊥ }
+    ensures { IfOk result (λ v. ShowsContradiction closed.now.ontology (lines_of v.items)) }
 {
-    ontology.well_formed();
-    let all = contradiction(alloc, ontology, saturation)?;
+    let alloc = closed.allocator();
+    closed.well_formed();
+    let all = contradiction(closed)?;
     let Some(goal) = contradictory_line(&all) else {
         // One of these lines is the contradiction.
         unreachable!()

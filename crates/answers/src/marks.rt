@@ -4,14 +4,14 @@ ghost use Rattle.answers.specs.Names.{IsMarked};
 ghost use Rattle.answers.specs.declared.question.Question.TheVariants as asked;
 ghost use Rattle.axioms.specs.Ontology.{nothing};
 ghost use Rattle.classification.specs.Lists.{SomeFact};
-ghost use Rattle.engine.specs.Saturations.{IsSaturated};
 ghost use Rattle.saturate.specs.ServedFacts.{AreNumbersOf};
 ghost use Rattle.std.specs.Prelude.{◌<◌, ◌≤◌, ◌^◌, ◌↔◌, ◌≡◌, ◌⊎◌, IfOk, IfSome, IsTrue, MatchOption, Some, length, true, ℕ};
 
+use crate::named::{class_numbered, few_classes};
 use crate::question::Question;
-use axioms::{ClassId, ExprId, IndId, Memory, Ontology};
+use axioms::{ExprId, IndId, Memory, Ontology};
 use classification::is_consistent;
-use engine::Saturation;
+use engine::{Closed, Indexed};
 use facts::{Context, Fact, StoredFact};
 use normal_forms::Class2;
 use std::alloc::Global;
@@ -179,40 +179,39 @@ fn marked_among(
 }
 
 /// The numbers of the facts that may answer the question, where they are found without going over all facts.
-fn asked_facts(saturation: &Saturation, question: Question) -> Option<&[u32]>
-    ensures { IfSome result (λ numbers. AreNumbersOf (MayAnswer question) saturation.now.state.facts numbers.now) }
+fn asked_facts<'a>(indexed: &Indexed<'a>, question: Question) -> Option<&'a [u32]>
+    ensures { IfSome result (λ numbers. AreNumbersOf (MayAnswer question) indexed.now.saturation.state.facts numbers.now) }
 {
     match question {
-        Question::Above(expression) => saturation.classes_in(Context::Expr(expression)),
+        Question::Above(expression) => Some(indexed.classes_in(Context::Expr(expression))),
         Question::Below(_) | Question::Members(_) => None,
     }
 }
 
 /// Whether a fact puts the expression in the other one.
-fn is_put(saturation: &Saturation, expression: ExprId, above: ExprId) -> bool
-    ensures { IsTrue result ↔ SomeFact saturation.now.state.facts (λ fact. PutsExpression fact expression.0 above.0) }
+fn is_put(indexed: &Indexed<'_>, expression: ExprId, above: ExprId) -> bool
+    ensures { IsTrue result ↔ SomeFact indexed.now.saturation.state.facts (λ fact. PutsExpression fact expression.0 above.0) }
 {
     let wanted = Fact::In(Class2::Expr(above), Context::Expr(expression));
-    saturation.find(wanted).is_some()
+    indexed.find(wanted).is_some()
 }
 
 /// Whether the expression has no element in any interpretation: a fact puts it in `owl:Nothing`.
-fn is_empty(saturation: &Saturation, expression: ExprId) -> bool
-    ensures { IsTrue result ↔ SomeFact saturation.now.state.facts (λ fact. PutsExpression fact expression.0 nothing) }
+fn is_empty(indexed: &Indexed<'_>, expression: ExprId) -> bool
+    ensures { IsTrue result ↔ SomeFact indexed.now.saturation.state.facts (λ fact. PutsExpression fact expression.0 nothing) }
 {
-    is_put(saturation, expression, ExprId::NOTHING)
+    is_put(indexed, expression, ExprId::NOTHING)
 }
 
 /// Whether every name is an answer, since there is no interpretation or the expression has no element in any.
-fn is_every(ontology: &Ontology, saturation: &Saturation, question: Question) -> bool
-    requires { IsSaturated ontology.now saturation.now }
-    ensures { IsTrue result ↔ IsEvery ontology.now saturation.now question }
+fn is_every(indexed: &Indexed<'_>, question: Question) -> bool
+    ensures { IsTrue result ↔ IsEvery indexed.now.ontology indexed.now.saturation question }
 {
-    if !is_consistent(ontology, saturation) {
+    if !is_consistent(indexed) {
         return true;
     }
     match question {
-        Question::Above(expression) => is_empty(saturation, expression),
+        Question::Above(expression) => is_empty(indexed, expression),
         Question::Below(_) | Question::Members(_) => false,
     }
 }
@@ -220,74 +219,54 @@ fn is_every(ontology: &Ontology, saturation: &Saturation, question: Question) ->
 // ---- by looking for each
 
 /// Whether a fact puts the expression in the class of that number.
-fn is_found_above(
-    ontology: &Ontology,
-    saturation: &Saturation,
-    expression: ExprId,
-    number: u32,
-) -> bool
-    ensures { IsTrue result ↔ SomeFact saturation.now.state.facts (λ fact. Answers ontology.now (asked.Above expression) fact number) }
+fn is_found_above(indexed: &Indexed<'_>, expression: ExprId, number: u32) -> bool
+    ensures { IsTrue result ↔ SomeFact indexed.now.saturation.state.facts (λ fact. Answers indexed.now.ontology (asked.Above expression) fact number) }
 {
-    ontology.well_formed();
-    match ontology.class_expr(ClassId(number)) {
-        Some(above) => is_put(saturation, expression, above),
+    match class_numbered(indexed, number) {
+        Some(above) => is_put(indexed, expression, above),
         None => false,
     }
 }
 
 /// Whether a fact puts the class of that number in the expression or in `owl:Nothing`.
-fn is_found_below(
-    ontology: &Ontology,
-    saturation: &Saturation,
-    expression: ExprId,
-    number: u32,
-) -> bool
-    ensures { IsTrue result ↔ SomeFact saturation.now.state.facts (λ fact. Answers ontology.now (asked.Below expression) fact number) }
+fn is_found_below(indexed: &Indexed<'_>, expression: ExprId, number: u32) -> bool
+    ensures { IsTrue result ↔ SomeFact indexed.now.saturation.state.facts (λ fact. Answers indexed.now.ontology (asked.Below expression) fact number) }
 {
-    ontology.well_formed();
-    match ontology.class_expr(ClassId(number)) {
-        Some(below) => is_put(saturation, below, expression) || is_empty(saturation, below),
+    match class_numbered(indexed, number) {
+        Some(below) => is_put(indexed, below, expression) || is_empty(indexed, below),
         None => false,
     }
 }
 
 /// Whether a fact puts the individual of that number in the expression.
-fn is_found_member(saturation: &Saturation, expression: ExprId, number: u32) -> bool
-    ensures { IsTrue result ↔ SomeFact saturation.now.state.facts (λ fact. PutsIndividual fact number expression.0) }
+fn is_found_member(indexed: &Indexed<'_>, expression: ExprId, number: u32) -> bool
+    ensures { IsTrue result ↔ SomeFact indexed.now.saturation.state.facts (λ fact. PutsIndividual fact number expression.0) }
 {
     let wanted = Fact::In(Class2::Expr(expression), Context::Individual(IndId(number)));
-    saturation.find(wanted).is_some()
+    indexed.find(wanted).is_some()
 }
 
 /// Whether a fact answers the question with the number.
-fn is_found(ontology: &Ontology, saturation: &Saturation, question: Question, number: u32) -> bool
-    ensures { IsTrue result ↔ SomeFact saturation.now.state.facts (λ fact. Answers ontology.now question fact number) }
+fn is_found(indexed: &Indexed<'_>, question: Question, number: u32) -> bool
+    ensures { IsTrue result ↔ SomeFact indexed.now.saturation.state.facts (λ fact. Answers indexed.now.ontology question fact number) }
 {
     match question {
-        Question::Above(expression) => is_found_above(ontology, saturation, expression, number),
-        Question::Below(expression) => is_found_below(ontology, saturation, expression, number),
-        Question::Members(expression) => is_found_member(saturation, expression, number),
+        Question::Above(expression) => is_found_above(indexed, expression, number),
+        Question::Below(expression) => is_found_below(indexed, expression, number),
+        Question::Members(expression) => is_found_member(indexed, expression, number),
     }
 }
 
 /// Whether every number answers the question, or a fact answers it with this one.
-fn is_answer(
-    ontology: &Ontology,
-    saturation: &Saturation,
-    question: Question,
-    every: bool,
-    number: u32,
-) -> bool
-    ensures { IsTrue result ↔ ((every ≡ true) ⊎ SomeFact saturation.now.state.facts (λ fact. Answers ontology.now question fact number)) }
+fn is_answer(indexed: &Indexed<'_>, question: Question, every: bool, number: u32) -> bool
+    ensures { IsTrue result ↔ ((every ≡ true) ⊎ SomeFact indexed.now.saturation.state.facts (λ fact. Answers indexed.now.ontology question fact number)) }
 {
-    every || is_found(ontology, saturation, question, number)
+    every || is_found(indexed, question, number)
 }
 
 /// Marks on those of the marked numbers that a fact answers with, or on each of them.
 fn found_among(
-    alloc: Global,
-    ontology: &Ontology,
-    saturation: &Saturation,
+    indexed: &Indexed<'_>,
     question: Question,
     every: bool,
     marks: &[bool],
@@ -295,29 +274,31 @@ fn found_among(
     requires { length marks.now ≤ 2 ^ 32 }
     ensures long { IfOk result (λ v. length v.items ≡ length marks.now) }
     ensures exact { IfOk result (λ v. (n : ℕ) → n < length marks.now →
-        IsMarked v.items n ↔ (IsMarked marks.now n × ((every ≡ true) ⊎ SomeFact saturation.now.state.facts (λ fact. Answers ontology.now question fact n)))) }
+        IsMarked v.items n ↔ (IsMarked marks.now n × ((every ≡ true) ⊎ SomeFact indexed.now.saturation.state.facts (λ fact. Answers indexed.now.ontology question fact n)))) }
 {
+    let closed = indexed.closed();
+    let alloc = closed.allocator();
     let mut found = Vec::new(alloc);
     for n in 0..marks.len() {
-        found.push(marks[n] && is_answer(ontology, saturation, question, every, n as u32))?;
+        found.push(marks[n] && is_answer(indexed, question, every, n as u32))?;
     }
     Ok(found)
 }
 
 /// So many marks: on each number, or on those that a fact answers with.
 fn marks_found(
-    alloc: Global,
-    ontology: &Ontology,
-    saturation: &Saturation,
+    indexed: &Indexed<'_>,
     question: Question,
     every: bool,
     size: usize,
 ) -> Result<Vec<bool>, Memory>
     requires { size ≤ 2 ^ 32 }
-    ensures { IfOk result (λ v. AreMarks (Answers ontology.now question) saturation.now.state.facts every size v.items) }
+    ensures { IfOk result (λ v. AreMarks (Answers indexed.now.ontology question) indexed.now.saturation.state.facts every size v.items) }
 {
+    let closed = indexed.closed();
+    let alloc = closed.allocator();
     let all = vec![in alloc; true; size]?;
-    found_among(alloc, ontology, saturation, question, every, &all)
+    found_among(indexed, question, every, &all)
 }
 
 /// Marks on those of the marked classes that answer which classes lie below the expression.
@@ -326,22 +307,19 @@ fn marks_found(
 ///
 /// `Memory` where memory was refused.
 pub(crate) fn below_among(
-    alloc: Global,
-    ontology: &Ontology,
-    saturation: &Saturation,
+    indexed: &Indexed<'_>,
     expression: ExprId,
     marks: &[bool],
 ) -> Result<Vec<bool>, Memory>
-    requires saturated { IsSaturated ontology.now saturation.now }
-    requires long { length marks.now ≡ length ontology.now.names.classes }
+    requires long { length marks.now ≡ length indexed.now.ontology.names.classes }
     ensures long { IfOk result (λ v. length v.items ≡ length marks.now) }
     ensures exact { IfOk result (λ v. (n : ℕ) → IsMarked marks.now n →
-        IsMarked v.items n ↔ (IsEvery ontology.now saturation.now (asked.Below expression) ⊎ SomeFact saturation.now.state.facts (λ fact. Answers ontology.now (asked.Below expression) fact n))) }
+        IsMarked v.items n ↔ (IsEvery indexed.now.ontology indexed.now.saturation (asked.Below expression) ⊎ SomeFact indexed.now.saturation.state.facts (λ fact. Answers indexed.now.ontology (asked.Below expression) fact n))) }
 {
-    ontology.bounded();
+    few_classes(indexed);
     let question = Question::Below(expression);
-    let every = is_every(ontology, saturation, question);
-    found_among(alloc, ontology, saturation, question, every, marks)
+    let every = is_every(indexed, question);
+    found_among(indexed, question, every, marks)
 }
 
 // ---- by what costs less
@@ -350,12 +328,10 @@ pub(crate) fn below_among(
 const FACTS_A_SEARCH: usize = 128;
 
 /// Whether looking for each of so many names costs less than going over all facts.
-pub(crate) fn are_few(saturation: &Saturation, names: usize) -> bool
+pub(crate) fn are_few(closed: &Closed<'_>, names: usize) -> bool
     ensures { IsTrue result → names ≤ 2 ^ 32 }
 {
-    saturation.can_grow()
-        && names <= u32::MAX as usize
-        && names < saturation.facts().len() / FACTS_A_SEARCH
+    names <= u32::MAX as usize && names < closed.facts().len() / FACTS_A_SEARCH
 }
 
 /// Marks on the numbers that answer the question.
@@ -364,22 +340,20 @@ pub(crate) fn are_few(saturation: &Saturation, names: usize) -> bool
 ///
 /// `Memory` where memory was refused.
 pub(crate) fn marks_of(
-    alloc: Global,
-    ontology: &Ontology,
-    saturation: &Saturation,
+    indexed: &Indexed<'_>,
     question: Question,
     size: usize,
 ) -> Result<Vec<bool>, Memory>
-    requires { IsSaturated ontology.now saturation.now }
-    ensures { IfOk result (λ v. AreAnswers ontology.now saturation.now question size v.items) }
+    ensures { IfOk result (λ v. AreAnswers indexed.now.ontology indexed.now.saturation question size v.items) }
 {
-    let every = is_every(ontology, saturation, question);
-    let facts = saturation.facts();
-    match asked_facts(saturation, question) {
+    let closed = indexed.closed();
+    let ontology = closed.ontology();
+    let alloc = closed.allocator();
+    let every = is_every(indexed, question);
+    let facts = closed.facts();
+    match asked_facts(indexed, question) {
         Some(numbers) => marked_among(alloc, ontology, facts, numbers, question, every, size),
-        None if are_few(saturation, size) => {
-            marks_found(alloc, ontology, saturation, question, every, size)
-        }
+        None if are_few(closed, size) => marks_found(indexed, question, every, size),
         None => marked_by(alloc, ontology, facts, question, every, size),
     }
 }

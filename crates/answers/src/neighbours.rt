@@ -7,7 +7,6 @@ ghost use Rattle.answers.specs.declared.question.Question.TheVariants as asked;
 ghost use Rattle.answers.specs.Questions.{FollowsFor, expression_asked, names_asked};
 ghost use Rattle.axioms.specs.Expression.{Iri};
 ghost use Rattle.closure.specs.Closure.{Expression, IsRoot};
-ghost use Rattle.engine.specs.Saturations.{IsSaturated};
 ghost use Rattle.std.specs.Prelude.{◌↔◌, ◌≡◌, Contains, IfOk, IfSome, IsSome, length, map};
 
 use crate::groups::groups_of;
@@ -18,140 +17,122 @@ use crate::names::names_in_order;
 use crate::nearest::{Side, far_marks};
 use crate::question::Question;
 use axioms::{ExprId, Memory, Ontology};
-use engine::Saturation;
+use engine::Indexed;
 use std::alloc::Global;
 
 /// Marks on the named classes that answer the question.
-fn class_marks(
-    alloc: Global,
-    ontology: &Ontology,
-    saturation: &Saturation,
-    question: Question,
-) -> Result<Vec<bool>, Memory>
-    requires saturated { IsSaturated ontology.now saturation.now }
-    requires root { IsRoot ontology.now saturation.now.normal.asked (Expression (expression_asked question)) }
-    requires classes { names_asked ontology.now question ≡ ontology.now.names.classes }
-    ensures { IfOk result (λ v. AreMarksOf ontology.now.names.classes (FollowsFor ontology.now question) v.items) }
+fn class_marks(indexed: &Indexed<'_>, question: Question) -> Result<Vec<bool>, Memory>
+    requires root { IsRoot indexed.now.ontology indexed.now.saturation.normal.asked (Expression (expression_asked question)) }
+    requires classes { names_asked indexed.now.ontology question ≡ indexed.now.ontology.names.classes }
+    ensures { IfOk result (λ v. AreMarksOf indexed.now.ontology.names.classes (FollowsFor indexed.now.ontology question) v.items) }
 {
-    ontology.well_formed();
-    let size = ontology.classes().len();
-    marks_of(alloc, ontology, saturation, question, size)
+    let closed = indexed.closed();
+    closed.well_formed();
+    let size = closed.ontology().classes().len();
+    marks_of(indexed, question, size)
+}
+
+/// The named classes that are marked, in byte order.
+fn classes_marked<'a>(indexed: &Indexed<'a>, marks: &[bool]) -> Result<Vec<&'a str>, Memory>
+    requires { length marks.now ≡ length indexed.now.ontology.names.classes }
+    ensures { IfOk result
+        (λ v. AreThose indexed.now.ontology.names.classes (HasMark indexed.now.ontology.names.classes marks.now) (map (λ s. s.now) v.items)) }
+{
+    let closed = indexed.closed();
+    closed.well_formed();
+    names_in_order(closed.allocator(), closed.ontology().classes(), marks)
 }
 
 /// Of the marked classes, marks on those that lie below the expression: where they are few, each is looked for.
 fn marks_below(
-    alloc: Global,
-    ontology: &Ontology,
-    saturation: &Saturation,
+    indexed: &Indexed<'_>,
     marks: &[bool],
     expression: ExprId,
 ) -> Result<Vec<bool>, Memory>
-    requires saturated { IsSaturated ontology.now saturation.now }
-    requires root { IsRoot ontology.now saturation.now.normal.asked (Expression expression.0) }
-    requires long { length marks.now ≡ length ontology.now.names.classes }
-    ensures { IfOk result (λ v. AreMarksAmong marks.now ontology.now.names.classes (FollowsFor ontology.now (asked.Below expression)) v.items) }
+    requires root { IsRoot indexed.now.ontology indexed.now.saturation.normal.asked (Expression expression.0) }
+    requires long { length marks.now ≡ length indexed.now.ontology.names.classes }
+    ensures { IfOk result (λ v. AreMarksAmong marks.now indexed.now.ontology.names.classes (FollowsFor indexed.now.ontology (asked.Below expression)) v.items) }
 {
-    ontology.well_formed();
+    let closed = indexed.closed();
+    closed.well_formed();
     let marked = marks.iter().filter(|mark| **mark).count();
-    if are_few(saturation, marked) {
-        below_among(alloc, ontology, saturation, expression, marks)
+    if are_few(closed, marked) {
+        below_among(indexed, expression, marks)
     } else {
-        class_marks(alloc, ontology, saturation, Question::Below(expression))
+        class_marks(indexed, Question::Below(expression))
     }
 }
 
 /// Marks on the named classes that lie above the class, and are not the same.
-fn marks_strictly_above(
-    alloc: Global,
-    ontology: &Ontology,
-    saturation: &Saturation,
-    class: ExprId,
-) -> Result<Vec<bool>, Memory>
-    requires saturated { IsSaturated ontology.now saturation.now }
-    requires root { IsRoot ontology.now saturation.now.normal.asked (Expression class.0) }
-    ensures { IfOk result (λ v. (name : Iri) → IsClassNamed ontology.now name class.0 → AreMarksOf ontology.now.names.classes (IsNearer ontology.now Above name) v.items) }
+fn marks_strictly_above(indexed: &Indexed<'_>, class: ExprId) -> Result<Vec<bool>, Memory>
+    requires root { IsRoot indexed.now.ontology indexed.now.saturation.normal.asked (Expression class.0) }
+    ensures { IfOk result (λ v. (name : Iri) → IsClassNamed indexed.now.ontology name class.0 → AreMarksOf indexed.now.ontology.names.classes (IsNearer indexed.now.ontology Above name) v.items) }
 {
-    let above = class_marks(alloc, ontology, saturation, Question::Above(class))?;
-    let below = marks_below(alloc, ontology, saturation, &above, class)?;
-    apart(alloc, &above, &below)
+    let above = class_marks(indexed, Question::Above(class))?;
+    let below = marks_below(indexed, &above, class)?;
+    apart(indexed.closed().allocator(), &above, &below)
 }
 
 /// Marks on the named classes that lie below the class, and are not the same.
-fn marks_strictly_below(
-    alloc: Global,
-    ontology: &Ontology,
-    saturation: &Saturation,
-    class: ExprId,
-) -> Result<Vec<bool>, Memory>
-    requires saturated { IsSaturated ontology.now saturation.now }
-    requires root { IsRoot ontology.now saturation.now.normal.asked (Expression class.0) }
-    ensures { IfOk result (λ v. (name : Iri) → IsClassNamed ontology.now name class.0 → AreMarksOf ontology.now.names.classes (IsNearer ontology.now Below name) v.items) }
+fn marks_strictly_below(indexed: &Indexed<'_>, class: ExprId) -> Result<Vec<bool>, Memory>
+    requires root { IsRoot indexed.now.ontology indexed.now.saturation.normal.asked (Expression class.0) }
+    ensures { IfOk result (λ v. (name : Iri) → IsClassNamed indexed.now.ontology name class.0 → AreMarksOf indexed.now.ontology.names.classes (IsNearer indexed.now.ontology Below name) v.items) }
 {
-    let above = class_marks(alloc, ontology, saturation, Question::Above(class))?;
-    let below = class_marks(alloc, ontology, saturation, Question::Below(class))?;
-    apart(alloc, &below, &above)
+    let above = class_marks(indexed, Question::Above(class))?;
+    let below = class_marks(indexed, Question::Below(class))?;
+    apart(indexed.closed().allocator(), &below, &above)
 }
 
 /// The groups of the nearest of the marked classes.
 fn nearest_groups<'a>(
-    alloc: Global,
-    ontology: &'a Ontology,
-    saturation: &Saturation,
+    indexed: &Indexed<'a>,
     marks: &[bool],
     side: Side,
 ) -> Result<Vec<Vec<&'a str>>, Memory>
-    requires saturated { IsSaturated ontology.now saturation.now }
-    requires long { length marks.now ≡ length ontology.now.names.classes }
-    requires satisfiable { AreSatisfiable ontology.now marks.now }
+    requires long { length marks.now ≡ length indexed.now.ontology.names.classes }
+    requires satisfiable { AreSatisfiable indexed.now.ontology marks.now }
     ensures { IfOk result
-        (λ v. AreGroups ontology.now (IsNearest ontology.now (HasMark ontology.now.names.classes marks.now) side) (groups_in v.items)) }
+        (λ v. AreGroups indexed.now.ontology (IsNearest indexed.now.ontology (HasMark indexed.now.ontology.names.classes marks.now) side) (groups_in v.items)) }
 {
-    ontology.well_formed();
-    let lists = lists_above(alloc, ontology, saturation, marks)?;
+    let closed = indexed.closed();
+    let ontology = closed.ontology();
+    let alloc = closed.allocator();
+    closed.well_formed();
+    let lists = lists_above(indexed, marks)?;
     let far = far_marks(alloc, &lists, marks, side)?;
     let near = apart(alloc, marks, &far)?;
-    let names = names_in_order(alloc, ontology.classes(), &near)?;
+    let names = classes_marked(indexed, &near)?;
     groups_of(alloc, ontology, &lists, &names)
 }
 
 /// One group of the marked classes, or none where there are none.
-fn one_group<'a>(
-    alloc: Global,
-    ontology: &'a Ontology,
-    marks: &[bool],
-) -> Result<Vec<Vec<&'a str>>, Memory>
-    requires long { length marks.now ≡ length ontology.now.names.classes }
-    requires same { AreOneGroup ontology.now marks.now }
-    ensures { IfOk result (λ v. AreGroups ontology.now (HasMark ontology.now.names.classes marks.now) (groups_in v.items)) }
+fn one_group<'a>(indexed: &Indexed<'a>, marks: &[bool]) -> Result<Vec<Vec<&'a str>>, Memory>
+    requires long { length marks.now ≡ length indexed.now.ontology.names.classes }
+    requires same { AreOneGroup indexed.now.ontology marks.now }
+    ensures { IfOk result (λ v. AreGroups indexed.now.ontology (HasMark indexed.now.ontology.names.classes marks.now) (groups_in v.items)) }
 {
-    ontology.well_formed();
-    let mut groups = Vec::new(alloc);
+    let mut groups = Vec::new(indexed.closed().allocator());
     if has_mark(marks) {
-        groups.push(names_in_order(alloc, ontology.classes(), marks)?)?;
+        groups.push(classes_marked(indexed, marks)?)?;
     }
     Ok(groups)
 }
 
 /// The groups of the classes directly below a class, by marks on those that lie strictly below it. Those without elements are one
 /// group, which lies below all others.
-fn groups_below<'a>(
-    alloc: Global,
-    ontology: &'a Ontology,
-    saturation: &Saturation,
-    marks: &[bool],
-) -> Result<Vec<Vec<&'a str>>, Memory>
-    requires saturated { IsSaturated ontology.now saturation.now }
-    requires below { (class : Iri) × AreMarksOf ontology.now.names.classes (IsNearer ontology.now Below class) marks.now }
-    ensures { IfOk result (λ v. (class : Iri) → AreMarksOf ontology.now.names.classes (IsNearer ontology.now Below class) marks.now →
-        AreGroups ontology.now (λ name. LiesDirectlyBelow ontology.now name class) (groups_in v.items)) }
+fn groups_below<'a>(indexed: &Indexed<'a>, marks: &[bool]) -> Result<Vec<Vec<&'a str>>, Memory>
+    requires below { (class : Iri) × AreMarksOf indexed.now.ontology.names.classes (IsNearer indexed.now.ontology Below class) marks.now }
+    ensures { IfOk result (λ v. (class : Iri) → AreMarksOf indexed.now.ontology.names.classes (IsNearer indexed.now.ontology Below class) marks.now →
+        AreGroups indexed.now.ontology (λ name. LiesDirectlyBelow indexed.now.ontology name class) (groups_in v.items)) }
 {
-    ontology.well_formed();
-    let empty = marks_below(alloc, ontology, saturation, marks, ExprId::NOTHING)?;
-    let satisfiable = apart(alloc, marks, &empty)?;
+    let closed = indexed.closed();
+    closed.well_formed();
+    let empty = marks_below(indexed, marks, ExprId::NOTHING)?;
+    let satisfiable = apart(closed.allocator(), marks, &empty)?;
     if has_mark(&satisfiable) {
-        nearest_groups(alloc, ontology, saturation, &satisfiable, Side::Below)
+        nearest_groups(indexed, &satisfiable, Side::Below)
     } else {
-        one_group(alloc, ontology, marks)
+        one_group(indexed, marks)
     }
 }
 
@@ -162,25 +143,18 @@ fn groups_below<'a>(
 /// # Errors
 ///
 /// `Memory` where memory was refused.
-pub fn equivalents<'a>(
-    alloc: Global,
-    ontology: &'a Ontology,
-    saturation: &Saturation,
-    class: &str,
-) -> Result<Option<Vec<&'a str>>, Memory>
-    requires { IsSaturated ontology.now saturation.now }
-    ensures known { IfOk result (λ answer. IsSome answer ↔ Contains ontology.now.names.classes class.now) }
+pub fn equivalents<'a>(indexed: &Indexed<'a>, class: &str) -> Result<Option<Vec<&'a str>>, Memory>
+    ensures known { IfOk result (λ answer. IsSome answer ↔ Contains indexed.now.ontology.names.classes class.now) }
     ensures exact { IfOk result (λ answer. IfSome answer
-        (λ v. AreThose ontology.now.names.classes (AreSame ontology.now class.now) (map (λ s. s.now) v.items))) }
+        (λ v. AreThose indexed.now.ontology.names.classes (AreSame indexed.now.ontology class.now) (map (λ s. s.now) v.items))) }
 {
-    let Some(class) = class_named(ontology, class) else {
+    let Some(class) = class_named(indexed, class) else {
         return Ok(None);
     };
-    ontology.well_formed();
-    let above = class_marks(alloc, ontology, saturation, Question::Above(class))?;
-    let below = marks_below(alloc, ontology, saturation, &above, class)?;
-    let same = both(alloc, &above, &below)?;
-    let names = names_in_order(alloc, ontology.classes(), &same)?;
+    let above = class_marks(indexed, Question::Above(class))?;
+    let below = marks_below(indexed, &above, class)?;
+    let same = both(indexed.closed().allocator(), &above, &below)?;
+    let names = classes_marked(indexed, &same)?;
     Ok(Some(names))
 }
 
@@ -192,22 +166,16 @@ pub fn equivalents<'a>(
 /// # Errors
 ///
 /// `Memory` where memory was refused.
-pub fn parents<'a>(
-    alloc: Global,
-    ontology: &'a Ontology,
-    saturation: &Saturation,
-    class: &str,
-) -> Result<Option<Vec<Vec<&'a str>>>, Memory>
-    requires { IsSaturated ontology.now saturation.now }
-    ensures known { IfOk result (λ answer. IsSome answer ↔ Contains ontology.now.names.classes class.now) }
+pub fn parents<'a>(indexed: &Indexed<'a>, class: &str) -> Result<Option<Vec<Vec<&'a str>>>, Memory>
+    ensures known { IfOk result (λ answer. IsSome answer ↔ Contains indexed.now.ontology.names.classes class.now) }
     ensures exact { IfOk result (λ answer. IfSome answer
-        (λ v. AreGroups ontology.now (LiesDirectlyBelow ontology.now class.now) (groups_in v.items))) }
+        (λ v. AreGroups indexed.now.ontology (LiesDirectlyBelow indexed.now.ontology class.now) (groups_in v.items))) }
 {
-    let Some(class) = class_named(ontology, class) else {
+    let Some(class) = class_named(indexed, class) else {
         return Ok(None);
     };
-    let marks = marks_strictly_above(alloc, ontology, saturation, class)?;
-    let groups = nearest_groups(alloc, ontology, saturation, &marks, Side::Above)?;
+    let marks = marks_strictly_above(indexed, class)?;
+    let groups = nearest_groups(indexed, &marks, Side::Above)?;
     Ok(Some(groups))
 }
 
@@ -217,21 +185,15 @@ pub fn parents<'a>(
 /// # Errors
 ///
 /// `Memory` where memory was refused.
-pub fn children<'a>(
-    alloc: Global,
-    ontology: &'a Ontology,
-    saturation: &Saturation,
-    class: &str,
-) -> Result<Option<Vec<Vec<&'a str>>>, Memory>
-    requires { IsSaturated ontology.now saturation.now }
-    ensures known { IfOk result (λ answer. IsSome answer ↔ Contains ontology.now.names.classes class.now) }
+pub fn children<'a>(indexed: &Indexed<'a>, class: &str) -> Result<Option<Vec<Vec<&'a str>>>, Memory>
+    ensures known { IfOk result (λ answer. IsSome answer ↔ Contains indexed.now.ontology.names.classes class.now) }
     ensures exact { IfOk result (λ answer. IfSome answer
-        (λ v. AreGroups ontology.now (λ name. LiesDirectlyBelow ontology.now name class.now) (groups_in v.items))) }
+        (λ v. AreGroups indexed.now.ontology (λ name. LiesDirectlyBelow indexed.now.ontology name class.now) (groups_in v.items))) }
 {
-    let Some(class) = class_named(ontology, class) else {
+    let Some(class) = class_named(indexed, class) else {
         return Ok(None);
     };
-    let marks = marks_strictly_below(alloc, ontology, saturation, class)?;
-    let groups = groups_below(alloc, ontology, saturation, &marks)?;
+    let marks = marks_strictly_below(indexed, class)?;
+    let groups = groups_below(indexed, &marks)?;
     Ok(Some(groups))
 }

@@ -1,9 +1,9 @@
 //! What is asked of the saturation of a document. Here alone a saturation is alive.
-ghost use Rattle.engine.specs.Saturations.{IsSaturated};
 
+use crate::documents::saturated;
 use crate::{derivations, listings};
 use axioms::Ontology;
-use engine::{Saturation, saturated};
+use engine::Indexed;
 use profile::{Version, read_bytes};
 use std::alloc::Global;
 use std::hash::RandomState;
@@ -19,21 +19,22 @@ pub(crate) enum Asked {
 }
 
 /// The answer.
-fn answer(alloc: Global, ontology: &Ontology, saturation: &Saturation, asked: Asked) -> bool
-    requires { IsSaturated ontology.now saturation.now }
-{
+fn answer(indexed: &Indexed<'_>, asked: Asked) -> bool {
     match asked {
-        Asked::Derivation(asked) => derivations::answer(alloc, ontology, saturation, asked),
-        Asked::Listing(asked) => listings::answer(alloc, ontology, saturation, asked),
+        Asked::Derivation(asked) => derivations::answer(indexed, asked),
+        Asked::Listing(asked) => listings::answer(indexed, asked),
     }
 }
 
 /// The answer for the saturation of an ontology.
 fn answer_for(alloc: Global, state: RandomState, ontology: &Ontology, asked: Asked) -> bool {
-    let Ok(saturation) = saturated(alloc, state, ontology, 100) else {
+    let Ok(saturation) = saturated(alloc, state, ontology) else {
         return false;
     };
-    let right = answer(alloc, ontology, &saturation, asked);
+    let right = match saturation.indexed(ontology) {
+        Some(indexed) => answer(&indexed, asked),
+        None => false,
+    };
     drop(saturation);
     right
 }

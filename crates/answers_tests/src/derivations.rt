@@ -1,14 +1,14 @@
 //! The lines of worked closures, as values and as text.
 ghost use Rattle.closure.specs.Closure.{Expression, IsRoot};
-ghost use Rattle.engine.specs.Saturations.{IsSaturated};
 ghost use Rattle.std.specs.Prelude.{IfSome, List, ℕ};
 
 use crate::asked;
 use axioms::{ClassId, ExprId, IndId, Kind, Ontology};
 use cert_check::{Conclusion, Line, Rule, Subject, read_certificate};
-use certificate::{FormatOne, LineText};
+use certificate::FormatOne;
+use certificate_text::LineText;
 use classification::is_consistent;
-use engine::Saturation;
+use engine::{Closed, Indexed};
 use explain::{contradiction, contradiction_text, line_text, lines, lines_of};
 use facts::Context;
 use std::alloc::Global;
@@ -51,10 +51,8 @@ fn say_one_subclass(lines: &[Line]) -> bool {
 }
 
 /// Whether there are such lines.
-fn has_lines(alloc: Global, ontology: &Ontology, saturation: &Saturation) -> bool
-    requires { IsSaturated ontology.now saturation.now }
-{
-    match lines(alloc, ontology, saturation) {
+fn has_lines(closed: &Closed<'_>) -> bool {
+    match lines(closed) {
         Ok(lines) => say_one_subclass(&lines),
         Err(_) => false,
     }
@@ -72,11 +70,12 @@ fn reads_as_lines(alloc: Global, ontology: &Ontology, text: &LineText<FormatOne>
 }
 
 /// Whether there is a text of such lines.
-fn has_text(alloc: Global, ontology: &Ontology, saturation: &Saturation) -> bool
-    requires { IsSaturated ontology.now saturation.now }
-{
-    match line_text::<FormatOne>(alloc, ontology, saturation) {
-        Ok(text) => text.len() == BELOW.len() && reads_as_lines(alloc, ontology, &text),
+fn has_text(closed: &Closed<'_>) -> bool {
+    match line_text::<FormatOne>(closed) {
+        Ok(text) => {
+            text.len() == BELOW.len()
+                && reads_as_lines(closed.allocator(), closed.ontology(), &text)
+        }
         Err(_) => false,
     }
 }
@@ -125,13 +124,11 @@ const TO_NOTHING: &[Step] = &[
 ];
 
 /// Whether these lines are the contradiction.
-fn has_contradiction(alloc: Global, ontology: &Ontology, saturation: &Saturation) -> bool
-    requires { IsSaturated ontology.now saturation.now }
-{
-    if is_consistent(ontology, saturation) {
+fn has_contradiction(indexed: &Indexed<'_>) -> bool {
+    if is_consistent(indexed) {
         return false;
     }
-    match contradiction(alloc, ontology, saturation) {
+    match contradiction(indexed.closed()) {
         Ok(lines) => are_steps(&lines, Subject::Individual(IndId(0)), TO_NOTHING),
         Err(_) => false,
     }
@@ -149,14 +146,12 @@ fn is_two_steps(alloc: Global, text: &LineText<FormatOne>) -> bool {
 }
 
 /// Whether the text of the contradiction is that of the certificate.
-fn has_contradiction_text(alloc: Global, ontology: &Ontology, saturation: &Saturation) -> bool
-    requires { IsSaturated ontology.now saturation.now }
-{
-    if is_consistent(ontology, saturation) {
+fn has_contradiction_text(indexed: &Indexed<'_>) -> bool {
+    if is_consistent(indexed) {
         return false;
     }
-    match contradiction_text::<FormatOne>(alloc, ontology, saturation) {
-        Ok(text) => is_two_steps(alloc, &text),
+    match contradiction_text::<FormatOne>(indexed.closed()) {
+        Ok(text) => is_two_steps(indexed.closed().allocator(), &text),
         Err(_) => false,
     }
 }
@@ -196,31 +191,26 @@ fn class_named(ontology: &Ontology, name: &str) -> Option<ExprId>
 }
 
 /// Whether A lies below C by these lines and no others.
-fn has_lines_of(alloc: Global, ontology: &Ontology, saturation: &Saturation) -> bool
-    requires { IsSaturated ontology.now saturation.now }
-{
+fn has_lines_of(indexed: &Indexed<'_>) -> bool {
+    let ontology = indexed.closed().ontology();
     let (Some(below), Some(above)) = (class_named(ontology, "x:A"), class_named(ontology, "x:C"))
     else {
         return false;
     };
-    match lines_of(alloc, ontology, saturation, Context::Expr(below), above) {
+    match lines_of(indexed, Context::Expr(below), above) {
         Ok(Some(lines)) => are_steps(&lines, Subject::Expr(ExprId(2)), A_BELOW_C),
         _ => false,
     }
 }
 
 /// Whether that C lies below A is found to be no fact.
-fn has_no_lines(alloc: Global, ontology: &Ontology, saturation: &Saturation) -> bool
-    requires { IsSaturated ontology.now saturation.now }
-{
+fn has_no_lines(indexed: &Indexed<'_>) -> bool {
+    let ontology = indexed.closed().ontology();
     let (Some(below), Some(above)) = (class_named(ontology, "x:C"), class_named(ontology, "x:A"))
     else {
         return false;
     };
-    matches!(
-        lines_of(alloc, ontology, saturation, Context::Expr(below), above),
-        Ok(None)
-    )
+    matches!(lines_of(indexed, Context::Expr(below), above), Ok(None))
 }
 
 /// What is asked of a saturation: whether it is what was worked out for its document.
@@ -235,21 +225,14 @@ pub(crate) enum Asked {
 }
 
 /// The answer.
-pub(crate) fn answer(
-    alloc: Global,
-    ontology: &Ontology,
-    saturation: &Saturation,
-    asked: Asked,
-) -> bool
-    requires { IsSaturated ontology.now saturation.now }
-{
+pub(crate) fn answer(indexed: &Indexed<'_>, asked: Asked) -> bool {
     match asked {
-        Asked::Lines => has_lines(alloc, ontology, saturation),
-        Asked::Text => has_text(alloc, ontology, saturation),
-        Asked::Contradiction => has_contradiction(alloc, ontology, saturation),
-        Asked::ContradictionText => has_contradiction_text(alloc, ontology, saturation),
-        Asked::LinesOfFact => has_lines_of(alloc, ontology, saturation),
-        Asked::LinesOfNoFact => has_no_lines(alloc, ontology, saturation),
+        Asked::Lines => has_lines(indexed.closed()),
+        Asked::Text => has_text(indexed.closed()),
+        Asked::Contradiction => has_contradiction(indexed),
+        Asked::ContradictionText => has_contradiction_text(indexed),
+        Asked::LinesOfFact => has_lines_of(indexed),
+        Asked::LinesOfNoFact => has_no_lines(indexed),
     }
 }
 

@@ -1,11 +1,13 @@
-//! Ontologies that documents state, sessions over documents, and interpretations that certificates list.
+//! Ontologies that documents state, their saturations, sessions over documents, and interpretations that certificates list.
+ghost use Rattle.engine.specs.Saturations.{IsSound, IsUnasked, as_ended};
 ghost use Rattle.interpretation_spec.specs.NumberedInterpretation.{IsMadeFor};
-ghost use Rattle.std.specs.Prelude.{IfSome};
+ghost use Rattle.std.specs.Prelude.{IfOk, IfSome};
 
 use axioms::Ontology;
 use cert_check::interpretation_of;
 use certificate::read_certificate;
 use device::SliceSource;
+use engine::{Saturation, Stop};
 use interpretation_spec::Interpretation;
 use profile::{Version, read_bytes};
 use session::{Limits, Session};
@@ -21,6 +23,25 @@ pub(crate) fn ontology_of<R: AllocGlobal + RandomSource>(
 ) -> Result<Ontology, Fail> {
     let state = RandomState::new(rt)?;
     Ok(read_bytes(rt.alloc(), document.as_bytes(), Version::Two, state)?)
+}
+
+/// The saturation of the ontology, run to its end, where it leads to at most 100 facts.
+pub(crate) fn saturated(
+    alloc: Global,
+    state: RandomState,
+    ontology: &Ontology,
+) -> Result<Saturation, Stop>
+    ensures sound { IfOk result (IsSound ontology.now) }
+    ensures unasked { IfOk result (λ s. IsUnasked (as_ended s)) }
+{
+    let mut saturation = Saturation::start(alloc, state, ontology)?;
+    match saturation.resume(100) {
+        Ok(()) => Ok(saturation),
+        Err(stop) => {
+            drop(saturation);
+            Err(stop)
+        }
+    }
 }
 
 /// A session over the document, of which nothing was run.

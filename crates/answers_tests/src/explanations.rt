@@ -2,7 +2,7 @@
 
 mod judged;
 
-ghost use Rattle.engine.specs.Saturations.{IsSaturated, IsUnasked};
+ghost use Rattle.engine.specs.Saturations.{IsUnasked};
 ghost use Rattle.answers.specs.Explanations.{Explains};
 ghost use Rattle.answers.specs.declared.asked.Asked.{Asked as Asked2};
 ghost use Rattle.certificate.specs.Writability.{IsLineOf};
@@ -10,11 +10,12 @@ ghost use Rattle.certificate.specs.View.{lines_of};
 ghost use Rattle.interpretation_spec.specs.NumberedInterpretation.{IsMadeFor};
 ghost use Rattle.std.specs.Prelude.{All, List, ℕ};
 
+use crate::documents::saturated;
 use answer_texts::{proof_bytes, refutation_bytes};
 use answers::{Asked, Explanation, explained};
 use axioms::Ontology;
 use certificate::Line;
-use engine::{Saturation, saturated};
+use engine::Indexed;
 use interpretation_spec::Interpretation;
 use judged::is_right_of;
 use profile::{Version, read_bytes};
@@ -343,16 +344,13 @@ fn is_wanted(alloc: Global, ontology: &Ontology, found: &Explanation, wanted: Wa
 }
 
 /// Whether the question is explained as it is wanted.
-fn is_explained(
-    alloc: Global,
-    ontology: &Ontology,
-    saturation: &Saturation,
-    question: &Question,
-) -> bool
-    requires saturated { IsSaturated ontology.now saturation.now }
-    requires unasked { IsUnasked saturation.now }
+fn is_explained(indexed: &Indexed<'_>, question: &Question) -> bool
+    requires { IsUnasked indexed.now.saturation }
 {
-    match explained(alloc, ontology, saturation, question.asked, question.class) {
+    let closed = indexed.closed();
+    let ontology = closed.ontology();
+    let alloc = closed.allocator();
+    match explained(indexed, question.asked, question.class) {
         Ok(Some(found)) => is_wanted(alloc, ontology, &found, question.wanted),
         Ok(None) => matches!(question.wanted, Wanted::Unknown),
         Err(_) => false,
@@ -360,16 +358,13 @@ fn is_explained(
 }
 
 /// Whether what explains the question is judged right.
-fn is_found_right(
-    alloc: Global,
-    ontology: &Ontology,
-    saturation: &Saturation,
-    question: &Question,
-) -> bool
-    requires saturated { IsSaturated ontology.now saturation.now }
-    requires unasked { IsUnasked saturation.now }
+fn is_found_right(indexed: &Indexed<'_>, question: &Question) -> bool
+    requires { IsUnasked indexed.now.saturation }
 {
-    match explained(alloc, ontology, saturation, question.asked, question.class) {
+    let closed = indexed.closed();
+    let ontology = closed.ontology();
+    let alloc = closed.allocator();
+    match explained(indexed, question.asked, question.class) {
         Ok(Some(found)) => is_right_of(alloc, ontology, found, question.asked, question.class),
         Ok(None) => matches!(question.wanted, Wanted::Unknown),
         Err(_) => false,
@@ -378,10 +373,13 @@ fn is_found_right(
 
 /// Whether what explains the question is judged right. Here alone a saturation is alive.
 fn is_judged(alloc: Global, state: RandomState, ontology: &Ontology, question: &Question) -> bool {
-    let Ok(saturation) = saturated(alloc, state, ontology, 100) else {
+    let Ok(saturation) = saturated(alloc, state, ontology) else {
         return false;
     };
-    let right = is_found_right(alloc, ontology, &saturation, question);
+    let right = match saturation.indexed(ontology) {
+        Some(indexed) => is_found_right(&indexed, question),
+        None => false,
+    };
     drop(saturation);
     right
 }
@@ -403,10 +401,13 @@ fn is_answered(
     ontology: &Ontology,
     question: &Question,
 ) -> bool {
-    let Ok(saturation) = saturated(alloc, state, ontology, 100) else {
+    let Ok(saturation) = saturated(alloc, state, ontology) else {
         return false;
     };
-    let right = is_explained(alloc, ontology, &saturation, question);
+    let right = match saturation.indexed(ontology) {
+        Some(indexed) => is_explained(&indexed, question),
+        None => false,
+    };
     drop(saturation);
     right
 }

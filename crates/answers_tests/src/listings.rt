@@ -1,18 +1,17 @@
 //! What a closure lists, for worked documents.
 ghost use Rattle.exactness.specs.ListedInterpretation.{AreSatisfiableContexts};
-ghost use Rattle.engine.specs.Saturations.{IsSaturated};
 ghost use Rattle.interpretation_spec.specs.NumberedInterpretation.{IsMadeFor};
 
 use crate::asked;
 use axioms::{ClassId, ExprId, Ontology, PropId};
-use certificate::{Claim, ClassRow, FormatOne, LineText, Listed, PairRow};
+use certificate::{Claim, ClassRow, FormatOne, Listed, PairRow};
+use certificate_text::LineText;
 use classification::is_consistent;
 use countermodel::{Elements, build, listed, pair_rows, text_with_listed};
-use engine::Saturation;
+use engine::{Closed, Indexed};
 use facts::Context;
 use interpretation_spec::{Interpretation, Row};
 use normalise::Normal;
-use std::alloc::Global;
 use std::test::Fail;
 
 /// The classes E, W, H and D are the expressions 2, 3, 5 and 7; loc and part are the properties 0 and 1.
@@ -66,30 +65,19 @@ fn are_three_rows(rows: &[PairRow]) -> bool {
 }
 
 /// Whether these are the pairs of the elements.
-fn has_pairs(
-    alloc: Global,
-    ontology: &Ontology,
-    saturation: &Saturation,
-    elements: &Elements,
-) -> bool
-    requires saturated { IsSaturated ontology.now saturation.now }
-    requires elements { AreSatisfiableContexts ontology.now saturation.now.normal.asked elements.now }
+fn has_pairs(closed: &Closed<'_>, elements: &Elements) -> bool
+    requires { AreSatisfiableContexts closed.now.ontology closed.now.saturation.normal.asked elements.now }
 {
-    match pair_rows(alloc, ontology, saturation, elements) {
+    match pair_rows(closed, elements) {
         Ok(rows) => are_three_rows(&rows),
         Err(_) => false,
     }
 }
 
 /// Whether these are the elements, and these their pairs.
-fn has_elements_and_pairs(alloc: Global, ontology: &Ontology, saturation: &Saturation) -> bool
-    requires { IsSaturated ontology.now saturation.now }
-{
-    match Elements::of(alloc, ontology, saturation) {
-        Ok(elements) => {
-            are_four_classes_and_thing(&elements)
-                && has_pairs(alloc, ontology, saturation, &elements)
-        }
+fn has_elements_and_pairs(closed: &Closed<'_>) -> bool {
+    match Elements::of(closed) {
+        Ok(elements) => are_four_classes_and_thing(&elements) && has_pairs(closed, &elements),
         Err(_) => false,
     }
 }
@@ -123,29 +111,26 @@ fn is_chain_listed(made: &Listed) -> bool {
 }
 
 /// Whether the interpretation of the chain is listed.
-fn lists_the_chain(alloc: Global, ontology: &Ontology, saturation: &Saturation) -> bool
-    requires { IsSaturated ontology.now saturation.now }
-{
-    if !is_consistent(ontology, saturation) {
+fn lists_the_chain(indexed: &Indexed<'_>) -> bool {
+    if !is_consistent(indexed) {
         return false;
     }
-    match listed(alloc, ontology, saturation) {
+    match listed(indexed.closed()) {
         Ok(made) => is_chain_listed(&made),
         Err(_) => false,
     }
 }
 
 /// Whether the text of the interpretation of the chain is the one that was worked out.
-fn writes_the_chain(alloc: Global, ontology: &Ontology, saturation: &Saturation) -> bool
-    requires { IsSaturated ontology.now saturation.now }
-{
-    if !is_consistent(ontology, saturation) {
+fn writes_the_chain(indexed: &Indexed<'_>) -> bool {
+    if !is_consistent(indexed) {
         return false;
     }
-    let Ok(lines) = LineText::<FormatOne>::new(alloc) else {
+    let closed = indexed.closed();
+    let Ok(lines) = LineText::<FormatOne>::new(closed.allocator()) else {
         return false;
     };
-    match text_with_listed(alloc, ontology, saturation, lines) {
+    match text_with_listed(closed, lines) {
         Ok(text) => text.as_slice() == LISTED_CHAIN,
         Err(_) => false,
     }
@@ -171,14 +156,13 @@ fn is_model_of_one_subclass(ontology: &Ontology, made: &Interpretation) -> bool
 }
 
 /// Whether the interpretation of one subclass axiom is built.
-fn builds_a_model(alloc: Global, ontology: &Ontology, saturation: &Saturation) -> bool
-    requires { IsSaturated ontology.now saturation.now }
-{
-    if !is_consistent(ontology, saturation) {
+fn builds_a_model(indexed: &Indexed<'_>) -> bool {
+    if !is_consistent(indexed) {
         return false;
     }
-    match build(alloc, ontology, saturation) {
-        Ok(made) => is_model_of_one_subclass(ontology, &made),
+    let closed = indexed.closed();
+    match build(closed) {
+        Ok(made) => is_model_of_one_subclass(closed.ontology(), &made),
         Err(_) => false,
     }
 }
@@ -200,20 +184,13 @@ pub(crate) enum Asked {
 }
 
 /// The answer.
-pub(crate) fn answer(
-    alloc: Global,
-    ontology: &Ontology,
-    saturation: &Saturation,
-    asked: Asked,
-) -> bool
-    requires { IsSaturated ontology.now saturation.now }
-{
+pub(crate) fn answer(indexed: &Indexed<'_>, asked: Asked) -> bool {
     match asked {
-        Asked::ElementsAndPairs => has_elements_and_pairs(alloc, ontology, saturation),
-        Asked::Listing => lists_the_chain(alloc, ontology, saturation),
-        Asked::Text => writes_the_chain(alloc, ontology, saturation),
-        Asked::Model => builds_a_model(alloc, ontology, saturation),
-        Asked::OneForm => has_one_form(saturation.normal()),
+        Asked::ElementsAndPairs => has_elements_and_pairs(indexed.closed()),
+        Asked::Listing => lists_the_chain(indexed),
+        Asked::Text => writes_the_chain(indexed),
+        Asked::Model => builds_a_model(indexed),
+        Asked::OneForm => has_one_form(indexed.closed().normal()),
     }
 }
 

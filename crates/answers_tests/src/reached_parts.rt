@@ -1,11 +1,11 @@
 //! The members of what is reached from a context.
-ghost use Rattle.engine.specs.Saturations.{IsSaturated};
 
+use crate::documents::saturated;
 use axioms::{ExprId, Ontology, PropId};
 use certificate::Listed;
 use classification::is_consistent;
 use countermodel::{Elements, reached_part};
-use engine::Saturation;
+use engine::Indexed;
 use facts::Context;
 use profile::{Version, read_bytes};
 use std::alloc::Global;
@@ -39,32 +39,30 @@ fn is_part_from_w(members: &Listed) -> bool {
 }
 
 /// Whether these are the members of what is reached from W, and W is the first of them, behind owl:Thing and E in the whole.
-fn lists_the_part(alloc: Global, ontology: &Ontology, saturation: &Saturation) -> bool
-    requires { IsSaturated ontology.now saturation.now }
-{
-    if !is_consistent(ontology, saturation) {
+fn lists_the_part(indexed: &Indexed<'_>) -> bool {
+    if !is_consistent(indexed) {
         return false;
     }
-    let Ok(elements) = Elements::of(alloc, ontology, saturation) else {
+    let Ok(elements) = Elements::of(indexed.closed()) else {
         return false;
     };
     let Some(place) = elements.element(W) else {
         return false;
     };
-    match reached_part(alloc, ontology, saturation, W) {
-        Ok(Some((members, element))) => place == 2 && element == 0 && is_part_from_w(&members),
-        _ => false,
+    match reached_part(indexed, W) {
+        Ok((members, element)) => place == 2 && element == 0 && is_part_from_w(&members),
+        Err(_) => false,
     }
 }
 
 /// Whether they are listed once all facts are served.
 fn is_listed(alloc: Global, state: RandomState, ontology: &Ontology) -> bool {
-    let Ok(mut saturation) = Saturation::start(alloc, state, ontology) else {
+    let Ok(saturation) = saturated(alloc, state, ontology) else {
         return false;
     };
-    let is_so = match saturation.resume(100) {
-        Ok(()) => lists_the_part(alloc, ontology, &saturation),
-        Err(_) => false,
+    let is_so = match saturation.indexed(ontology) {
+        Some(indexed) => lists_the_part(&indexed),
+        None => false,
     };
     drop(saturation);
     is_so

@@ -51,7 +51,7 @@ module _ (o : Ontology) (asked : List ℕ) (b : Prefixes) (k : Problem) (problem
 
 -- the facts of a saturation are as many as those of the closure
 pub has_facts : (o : Ontology) (s : Saturated) → IsSaturated o s → HasFacts o s.normal.asked (length s.state.facts)
-has_facts o s h = all_counted o s.normal.asked (prefixes_of s.normal) s.state.problem h.problem s.state.facts h.state.born.distinct h.facts
+has_facts o s h = all_counted o s.normal.asked (prefixes_of s.normal) s.state.problem h.problem s.state.facts h.born.distinct h.facts
 
 pub counts_of : (o : Ontology) (s : Saturated) (summary : Summary) (consistent : Bool) → IsSaturated o s → IsUnasked s
     → summary.consistent ≡ consistent → summary.classes ≡ length o.names.classes → summary.individuals ≡ length o.names.individuals → summary.facts ≡ length s.state.facts

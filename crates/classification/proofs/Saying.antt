@@ -1,6 +1,8 @@
 -- What the facts of a saturation say of named classes and individuals.
-use Rattle.std.proofs.Common.{◌≡◌, ◌↔◌, ℕ, ◌<◌, List, [], length, get_or, All, Contains, refl, sym, ap₂, subst, subst₂}
+use Rattle.std.proofs.Common.{◌≡◌, ◌↔◌, ℕ, zero, suc, ◌<◌, Bool, true, false, not, IsTrue, Option, None, Some, is_some, List, [], length, get_or, All, Contains, refl, sym, ap, ap₂, ◌∙◌, subst, subst₂}
+use Rattle.std.proofs.lemmas.Bool.{false≢true}
 use Rattle.std.proofs.lemmas.List.Elements.{All-contains, Contains-get_or}
+use Rattle.std.proofs.lemmas.Option.{none-some}
 use Rattle.lemmas.proofs.Members.{Contains-from_slice_get, slice_get-from_Contains}
 use Rattle.axioms.specs.Ontology.{Ontology, Class, IsClassAt, nothing, thing}
 use Rattle.axioms.specs.WellFormedness.{IsOntology}
@@ -18,8 +20,10 @@ use Rattle.exactness.specs.ListedInterpretation.{IsConsistent}
 use Rattle.exactness.specs.Derivability.{FactIsDerivable}
 use Rattle.exactness.proofs.Facts.{fact_derivable}
 use Rattle.engine.specs.Saturations.{IsSaturated, IsUnasked, Saturated, SayTheClosure}
+use Rattle.explain.specs.Marks.{FindsGoal, IsGoal, IsContradictoryFact}
+use Rattle.explain.proofs.Saying.{no_contradiction}
 use Rattle.normalise.specs.Problem.{prefixes_of}
-use Rattle.classification.specs.Contradiction.{IsContradiction}
+use Rattle.classification.specs.Contradiction.{IsFreeOfNothing}
 use Rattle.classification.specs.Lists.{PutsBelow, PutsInto, IsAboutIndividualOf, SomeFact}
 
 -- ---- one fact
@@ -95,26 +99,52 @@ module _ (o : Ontology) (asked : List ℕ) (w : IsOntology o) (b : Prefixes) (fs
         (n, fact, at, (i, f', is, same_i, subst (IsClassAt o d) (sym same_f) above)),
   )
 
-  no_contradiction : IsConsistent o asked → (fact : code_fact.Fact) → Contains fs fact → IsContradiction fact → ⊥
-  no_contradiction consistent (facts.In (classes.Expr c) (contexts.Expr e)) there bad =
+  no_contradictory : IsConsistent o asked → (fact : code_fact.Fact) → Contains fs fact → IsContradictoryFact o fact → ⊥
+  no_contradictory consistent (facts.In (classes.Expr c) (contexts.Expr e)) there bad =
       consistent.things (subst₂ (λ x y. IsFact o asked (In (Whole x) (Expression y))) bad.0 bad.1 (class_is_fact c e there))
-  no_contradiction consistent (facts.In (classes.Expr c) (contexts.Individual i)) there bad =
-      consistent.individuals i.0 (about_individual (type_fact c i) there) (subst (λ x. IsFact o asked (In (Whole x) (Individual i.0))) bad (type_is_fact c i there))
-  no_contradiction consistent (facts.In (classes.Partial n) x) there bad = bad
-  no_contradiction consistent (facts.Edge x r y) there bad = bad
+  no_contradictory consistent (facts.In (classes.Expr c) (contexts.Individual i)) there bad =
+      consistent.individuals i.0 bad.1 (subst (λ x. IsFact o asked (In (Whole x) (Individual i.0))) bad.0 (type_is_fact c i there))
+  no_contradictory consistent (facts.In (classes.Partial n) x) there bad = bad
+  no_contradictory consistent (facts.Edge x r y) there bad = bad
 
-  -- the closure is consistent where no fact says otherwise
-  pub consistent_by_facts : All (λ fact. IsContradiction fact → ⊥) fs ↔ IsConsistent o asked
-  consistent_by_facts = (
-    λ all. record {
+  -- the closure is consistent where none of the facts is there that would say otherwise
+  pub consistent_by_finding : IsFreeOfNothing o fs ↔ IsConsistent o asked
+  consistent_by_finding = (
+    λ none. record {
       things = λ is_fact.
           let (fact, there, says) = h.all (In (Whole nothing) (Expression thing)) is_fact in
           let (f, e, is, same_f, same_e) = class_sayer says in
-          All-contains (λ fact. IsContradiction fact → ⊥) fs fact all there (subst IsContradiction (sym is) (same_f, same_e));
+          none.0 (subst (Contains fs) (is ∙ ap₂ (λ c d. class_fact (record { 0 = c }) (record { 0 = d })) same_f same_e) there);
       individuals = λ a l is_fact.
           let (fact, there, says) = h.all (In (Whole nothing) (Individual a)) is_fact in
           let (f, i, is, same_f, same_i) = type_sayer says in
-          All-contains (λ fact. IsContradiction fact → ⊥) fs fact all there (subst IsContradiction (sym is) same_f);
+          none.1 i (subst (λ n. n < length o.names.individuals) (sym same_i) l) (subst (Contains fs) (is ∙ ap (λ c. type_fact (record { 0 = c }) i) same_f) there);
     },
-    λ consistent k d l. no_contradiction consistent (get_or fs k d) (Contains-get_or fs k d l),
+    λ consistent. (
+      λ there. consistent.things (class_is_fact (record { 0 = nothing }) (record { 0 = thing }) there),
+      λ a l there. consistent.individuals a.0 l (type_is_fact (record { 0 = nothing }) a there),
+    ),
   )
+
+-- the closure is consistent where no fact is a contradiction
+pub consistent_by_facts : (o : Ontology) (s : Saturated) → IsOntology o → IsSaturated o s → All (λ fact. IsContradictoryFact o fact → ⊥) s.state.facts ↔ IsConsistent o s.normal.asked
+consistent_by_facts o s w h = (
+  no_contradiction o s h,
+  λ consistent k d l.
+      let fs = s.state.facts in
+      no_contradictory o s.normal.asked w (prefixes_of s.normal) fs h.facts consistent (get_or fs k d) (Contains-get_or fs k d l),
+)
+
+-- ---- facts that are looked for
+
+module _ (P : code_fact.Fact → Type 0) (fs : List code_fact.Fact) where
+  goal_there : (n : ℕ) → IsGoal P fs n → All (λ f. P f → ⊥) fs → ⊥
+  goal_there zero (f, at, is) none = none-some f at
+  goal_there (suc n) (f, at, is) none = All-contains (λ g. P g → ⊥) fs f none (Contains-from_slice_get fs n f at) is
+
+  -- none of the facts is so where none is found
+  pub none_where_none_found : (found : Option ℕ) (is_none : Bool) → is_some found ≡ not is_none → FindsGoal P fs found → IsTrue is_none ↔ All (λ f. P f → ⊥) fs
+  none_where_none_found None true same none = (λ t. none, λ k. refl)
+  none_where_none_found None false same none = absurd (false≢true same)
+  none_where_none_found (Some n) true same found = absurd (false≢true (sym same))
+  none_where_none_found (Some n) false same found = (λ t. absurd (false≢true t), λ none. absurd (goal_there n found none))

@@ -3,20 +3,17 @@ ghost use Rattle.cert_check.specs.Acceptance.{AreRight, IsAcceptable};
 ghost use Rattle.classification.specs.Classifications.{AreCountsOf, AreTextsOf, IsWrittenIn};
 ghost use Rattle.classification.specs.Findings.{IsCertificateOf, IsOutcomeOf};
 ghost use Rattle.exactness.specs.ListedInterpretation.{IsConsistent};
-ghost use Rattle.engine.specs.Saturations.{HasMoreFactsThan, IsSaturated, IsUnasked};
-ghost use Rattle.inference.specs.declared.known_facts.Stop.TheVariants as stops;
-ghost use Rattle.std.specs.Prelude.{◌↔◌, ◌≡◌, ◌≤◌, [], Err, IfOk, IsTrue, false, length, true};
+ghost use Rattle.engine.specs.Saturations.{IsUnasked};
+ghost use Rattle.std.specs.Prelude.{◌↔◌, ◌≡◌, IfOk, IsTrue, false, length, true};
 
-use crate::consistent::is_consistent;
+use crate::consistent::has_no_contradiction;
 use crate::relation::taxonomy_of;
 use crate::types::types_of;
-use axioms::{Memory, Ontology};
+use axioms::Memory;
 use certificate::{Format, FormatOne, FormatTwo, FormatType};
 use countermodel::text_with_listed;
-use engine::{Saturation, Stop, saturated};
+use engine::Closed;
 use explain::{contradiction_text, line_text};
-use std::alloc::Global;
-use std::hash::RandomState;
 use taxonomy::{Outcome, instances_bytes, taxonomy_bytes};
 
 /// What a classification counts.
@@ -41,134 +38,104 @@ pub struct Classification {
 }
 
 /// The relations of classes and of individuals by the closure.
-fn relations(alloc: Global, ontology: &Ontology, saturation: &Saturation) -> Result<Outcome, Memory>
-    requires saturated { IsSaturated ontology.now saturation.now }
-    requires unasked { IsUnasked saturation.now }
-    ensures { IfOk result (IsOutcomeOf ontology.now true) }
+fn relations(closed: &Closed<'_>) -> Result<Outcome, Memory>
+    requires unasked { IsUnasked closed.now.saturation }
+    ensures { IfOk result (IsOutcomeOf closed.now.ontology true) }
 {
-    let taxonomy = taxonomy_of(alloc, ontology, saturation)?;
-    let types = types_of(alloc, ontology, saturation)?;
+    let taxonomy = taxonomy_of(closed)?;
+    let types = types_of(closed)?;
     Ok(Outcome::Consistent(taxonomy, types))
 }
 
 /// What the closure says: the relations of classes and individuals, or that there is no interpretation.
-fn outcome(
-    alloc: Global,
-    ontology: &Ontology,
-    saturation: &Saturation,
-    consistent: bool,
-) -> Result<Outcome, Memory>
-    requires saturated { IsSaturated ontology.now saturation.now }
-    requires unasked { IsUnasked saturation.now }
-    ensures { IfOk result (IsOutcomeOf ontology.now consistent) }
+fn outcome(closed: &Closed<'_>, consistent: bool) -> Result<Outcome, Memory>
+    requires unasked { IsUnasked closed.now.saturation }
+    ensures { IfOk result (IsOutcomeOf closed.now.ontology consistent) }
 {
     if consistent {
-        relations(alloc, ontology, saturation)
+        relations(closed)
     } else {
         Ok(Outcome::Inconsistent)
     }
 }
 
 /// The text of the certificate of a consistent closure: a derivation of all its facts, with the interpretation that it lists.
-fn certificate_of_closure<F: FormatType>(
-    alloc: Global,
-    ontology: &Ontology,
-    saturation: &Saturation,
-) -> Result<Vec<u8>, Memory>
-    requires saturated { IsSaturated ontology.now saturation.now }
-    requires unasked { IsUnasked saturation.now }
-    requires consistent { IsConsistent ontology.now saturation.now.normal.asked }
-    ensures { IfOk result (λ v. IsCertificateOf ontology.now F.format true v.items) }
+fn certificate_of_closure<F: FormatType>(closed: &Closed<'_>) -> Result<Vec<u8>, Memory>
+    requires unasked { IsUnasked closed.now.saturation }
+    requires consistent { IsConsistent closed.now.ontology closed.now.saturation.normal.asked }
+    ensures { IfOk result (λ v. IsCertificateOf closed.now.ontology F.format true v.items) }
 {
+    let ontology = closed.ontology();
     ontology.bounded();
-    let lines = line_text::<F>(alloc, ontology, saturation)?;
+    let lines = line_text::<F>(closed)?;
     lines.bounded();
-    let text = text_with_listed(alloc, ontology, saturation, lines)?;
+    let text = text_with_listed(closed, lines)?;
     Ok(text)
 }
 
 /// The text of the certificate of a contradiction: a derivation of it.
-fn certificate_of_contradiction<F: FormatType>(
-    alloc: Global,
-    ontology: &Ontology,
-    saturation: &Saturation,
-) -> Result<Vec<u8>, Memory>
-    requires saturated { IsSaturated ontology.now saturation.now }
-    requires contradictory { IsConsistent ontology.now saturation.now.normal.asked → ⊥ }
-    ensures { IfOk result (λ v. IsCertificateOf ontology.now F.format false v.items) }
+fn certificate_of_contradiction<F: FormatType>(closed: &Closed<'_>) -> Result<Vec<u8>, Memory>
+    requires contradictory { IsConsistent closed.now.ontology closed.now.saturation.normal.asked → ⊥ }
+    ensures { IfOk result (λ v. IsCertificateOf closed.now.ontology F.format false v.items) }
 {
+    let ontology = closed.ontology();
+    let alloc = closed.allocator();
     ontology.bounded();
-    let lines = contradiction_text::<F>(alloc, ontology, saturation)?;
+    let lines = contradiction_text::<F>(closed)?;
     lines.bounded();
     let text = lines.alone(alloc)?;
     Ok(text)
 }
 
 /// The text of the certificate of the closure, or of the contradiction that it has.
-fn certificate_of<F: FormatType>(
-    alloc: Global,
-    ontology: &Ontology,
-    saturation: &Saturation,
-    consistent: bool,
-) -> Result<Vec<u8>, Memory>
-    requires saturated { IsSaturated ontology.now saturation.now }
-    requires unasked { IsUnasked saturation.now }
-    requires consistent { IsTrue consistent ↔ IsConsistent ontology.now saturation.now.normal.asked }
-    ensures { IfOk result (λ v. IsCertificateOf ontology.now F.format consistent v.items) }
+fn certificate_of<F: FormatType>(closed: &Closed<'_>, consistent: bool) -> Result<Vec<u8>, Memory>
+    requires unasked { IsUnasked closed.now.saturation }
+    requires consistent { IsTrue consistent ↔ IsConsistent closed.now.ontology closed.now.saturation.normal.asked }
+    ensures { IfOk result (λ v. IsCertificateOf closed.now.ontology F.format consistent v.items) }
 {
     if consistent {
-        certificate_of_closure::<F>(alloc, ontology, saturation)
+        certificate_of_closure::<F>(closed)
     } else {
-        certificate_of_contradiction::<F>(alloc, ontology, saturation)
+        certificate_of_contradiction::<F>(closed)
     }
 }
 
 /// The text in the format.
-fn certificate_in(
-    alloc: Global,
-    ontology: &Ontology,
-    saturation: &Saturation,
-    consistent: bool,
-    format: Format,
-) -> Result<Vec<u8>, Memory>
-    requires saturated { IsSaturated ontology.now saturation.now }
-    requires unasked { IsUnasked saturation.now }
-    requires consistent { IsTrue consistent ↔ IsConsistent ontology.now saturation.now.normal.asked }
-    ensures { IfOk result (λ v. IsCertificateOf ontology.now format consistent v.items) }
+fn certificate_in(closed: &Closed<'_>, consistent: bool, format: Format) -> Result<Vec<u8>, Memory>
+    requires unasked { IsUnasked closed.now.saturation }
+    requires consistent { IsTrue consistent ↔ IsConsistent closed.now.ontology closed.now.saturation.normal.asked }
+    ensures { IfOk result (λ v. IsCertificateOf closed.now.ontology format consistent v.items) }
 {
     match format {
-        Format::One => certificate_of::<FormatOne>(alloc, ontology, saturation, consistent),
-        Format::Two => certificate_of::<FormatTwo>(alloc, ontology, saturation, consistent),
+        Format::One => certificate_of::<FormatOne>(closed, consistent),
+        Format::Two => certificate_of::<FormatTwo>(closed, consistent),
     }
 }
 
 /// How many there are of each kind.
-fn counted(ontology: &Ontology, saturation: &Saturation, consistent: bool) -> Summary
+fn counted(closed: &Closed<'_>, consistent: bool) -> Summary
     ensures consistent { result.consistent ≡ consistent }
-    ensures classes { result.classes ≡ length ontology.now.names.classes }
-    ensures individuals { result.individuals ≡ length ontology.now.names.individuals }
-    ensures facts { result.facts ≡ length saturation.now.state.facts }
+    ensures classes { result.classes ≡ length closed.now.ontology.names.classes }
+    ensures individuals { result.individuals ≡ length closed.now.ontology.names.individuals }
+    ensures facts { result.facts ≡ length closed.now.saturation.state.facts }
 {
+    let ontology = closed.ontology();
     Summary {
         consistent,
         classes: ontology.classes().len(),
         individuals: ontology.individuals().len(),
-        facts: saturation.facts().len() as u64,
+        facts: closed.facts().len() as u64,
     }
 }
 
 /// The taxonomy and the instances of the closure.
-fn relation_texts(
-    alloc: Global,
-    ontology: &Ontology,
-    saturation: &Saturation,
-    consistent: bool,
-) -> Result<(Vec<u8>, Vec<u8>), Memory>
-    requires saturated { IsSaturated ontology.now saturation.now }
-    requires unasked { IsUnasked saturation.now }
-    ensures { IfOk result (λ texts. AreTextsOf ontology.now consistent texts.0.items texts.1.items) }
+fn relation_texts(closed: &Closed<'_>, consistent: bool) -> Result<(Vec<u8>, Vec<u8>), Memory>
+    requires unasked { IsUnasked closed.now.saturation }
+    ensures { IfOk result (λ texts. AreTextsOf closed.now.ontology consistent texts.0.items texts.1.items) }
 {
-    let outcome = outcome(alloc, ontology, saturation, consistent)?;
+    let ontology = closed.ontology();
+    let alloc = closed.allocator();
+    let outcome = outcome(closed, consistent)?;
     let taxonomy = taxonomy_bytes(alloc, ontology, &outcome)?;
     let instances = instances_bytes(alloc, ontology, &outcome)?;
     Ok((taxonomy, instances))
@@ -180,86 +147,25 @@ fn relation_texts(
 /// # Errors
 ///
 /// `Memory` where memory was refused.
-pub fn classified(
-    alloc: Global,
-    ontology: &Ontology,
-    saturation: &Saturation,
-    format: Format,
-) -> Result<Classification, Memory>
-    requires saturated { IsSaturated ontology.now saturation.now }
-    requires unasked { IsUnasked saturation.now }
-    ensures counts { IfOk result (λ c. AreCountsOf ontology.now c.summary) }
-    ensures facts { IfOk result (λ c. c.summary.facts ≡ length saturation.now.state.facts) }
-    ensures texts { IfOk result (λ c. AreTextsOf ontology.now c.summary.consistent c.taxonomy.items c.instances.items) }
+pub fn classified(closed: &Closed<'_>, format: Format) -> Result<Classification, Memory>
+    requires unasked { IsUnasked closed.now.saturation }
+    ensures counts { IfOk result (λ c. AreCountsOf closed.now.ontology c.summary) }
+    ensures facts { IfOk result (λ c. c.summary.facts ≡ length closed.now.saturation.state.facts) }
+    ensures texts { IfOk result (λ c. AreTextsOf closed.now.ontology c.summary.consistent c.taxonomy.items c.instances.items) }
     // The certificate shows that the taxonomy and the instances are right, and so they say what follows from the axioms.
     ensures acceptable { IfOk result
-        (λ c. IsAcceptable ontology.now c.taxonomy.items c.instances.items c.certificate.items) }
-    ensures right { IfOk result (λ c. AreRight ontology.now c.taxonomy.items c.instances.items c.certificate.items) }
-    ensures written { IfOk result (λ c. IsWrittenIn ontology.now format c.certificate.items) }
+        (λ c. IsAcceptable closed.now.ontology c.taxonomy.items c.instances.items c.certificate.items) }
+    ensures right { IfOk result (λ c. AreRight closed.now.ontology c.taxonomy.items c.instances.items c.certificate.items) }
+    ensures written { IfOk result (λ c. IsWrittenIn closed.now.ontology format c.certificate.items) }
 {
-    ontology.well_formed();
-    let consistent = is_consistent(ontology, saturation);
-    let (taxonomy, instances) = relation_texts(alloc, ontology, saturation, consistent)?;
-    let certificate = certificate_in(alloc, ontology, saturation, consistent, format)?;
+    closed.well_formed();
+    let consistent = has_no_contradiction(closed);
+    let (taxonomy, instances) = relation_texts(closed, consistent)?;
+    let certificate = certificate_in(closed, consistent, format)?;
     Ok(Classification {
-        summary: counted(ontology, saturation, consistent),
+        summary: counted(closed, consistent),
         taxonomy,
         instances,
         certificate,
     })
-}
-
-/// The classification of an ontology with this saturation, which goes.
-fn classification_of(
-    alloc: Global,
-    ontology: &Ontology,
-    saturation: Saturation,
-    format: Format,
-) -> Result<Classification, Memory>
-    requires saturated { IsSaturated ontology.now saturation }
-    requires unasked { IsUnasked saturation }
-    ensures counts { IfOk result (λ c. AreCountsOf ontology.now c.summary) }
-    ensures facts { IfOk result (λ c. c.summary.facts ≡ length saturation.state.facts) }
-    ensures texts { IfOk result (λ c. AreTextsOf ontology.now c.summary.consistent c.taxonomy.items c.instances.items) }
-    ensures acceptable { IfOk result
-        (λ c. IsAcceptable ontology.now c.taxonomy.items c.instances.items c.certificate.items) }
-    ensures right { IfOk result (λ c. AreRight ontology.now c.taxonomy.items c.instances.items c.certificate.items) }
-    ensures written { IfOk result (λ c. IsWrittenIn ontology.now format c.certificate.items) }
-{
-    let made = classified(alloc, ontology, &saturation, format);
-    drop(saturation);
-    made
-}
-
-/// The classification of an ontology whose closure has at most `max_facts` facts, with a certificate in the format.
-///
-/// # Errors
-///
-/// `Limit` where the closure has more facts, and `Memory` where memory was refused before that was seen, or there are
-/// 2^32 - 1 fresh names of a kind.
-pub fn classify(
-    alloc: Global,
-    state: RandomState,
-    ontology: &Ontology,
-    max_facts: u32,
-    format: Format,
-) -> Result<Classification, Stop>
-    ensures counts { IfOk result (λ c. AreCountsOf ontology.now c.summary) }
-    ensures within { IfOk result (λ c. c.summary.facts ≤ max_facts) }
-    ensures texts { IfOk result (λ c. AreTextsOf ontology.now c.summary.consistent c.taxonomy.items c.instances.items) }
-    // The certificate shows that the taxonomy and the instances are right, and so they say what follows from the axioms.
-    ensures acceptable { IfOk result
-        (λ c. IsAcceptable ontology.now c.taxonomy.items c.instances.items c.certificate.items) }
-    ensures right { IfOk result (λ c. AreRight ontology.now c.taxonomy.items c.instances.items c.certificate.items) }
-    ensures written { IfOk result (λ c. IsWrittenIn ontology.now format c.certificate.items) }
-    ensures limit { result ≡ Err stops.Limit → HasMoreFactsThan ontology.now [] max_facts }
-{
-    let saturation = match saturated(alloc, state, ontology, max_facts) {
-        Ok(saturation) => saturation,
-        Err(stop) => return Err(stop),
-    };
-    match classification_of(alloc, ontology, saturation, format) {
-        Ok(classification) => Ok(classification),
-        Err(_) => Err(Stop::Memory),
-    }
 }

@@ -7,7 +7,6 @@ mod pairs;
 mod relation;
 mod types;
 
-pub use classification::{Classification, Summary, classified, classify};
+pub use classification::{Classification, Summary, classified};
 pub use consistent::is_consistent;
-pub use engine::Stop;
 pub use pairs::{class_pair, type_pair};

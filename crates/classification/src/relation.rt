@@ -1,11 +1,11 @@
 //! Which named classes lie below which.
 ghost use Rattle.classification.specs.Lists.{Adds, AreClassLists, IsTaxonomyOf, PutsBelow};
-ghost use Rattle.engine.specs.Saturations.{IsSaturated, IsUnasked};
+ghost use Rattle.engine.specs.Saturations.{IsUnasked};
 ghost use Rattle.std.specs.Prelude.{◌≡◌, IfOk, OnOk, length};
 
 use crate::pairs::class_pair;
 use axioms::{Memory, Ontology};
-use engine::Saturation;
+use engine::Closed;
 use facts::StoredFact;
 use number_sets::{OpenLists, PackedLists};
 use std::alloc::Global;
@@ -39,32 +39,24 @@ fn class_lists(
 }
 
 /// The relation of the closure.
-fn relation_of(
-    alloc: Global,
-    ontology: &Ontology,
-    saturation: &Saturation,
-) -> Result<Relation, Memory>
-    requires saturated { IsSaturated ontology.now saturation.now }
-    requires unasked { IsUnasked saturation.now }
-    ensures { IfOk result (IsTaxonomyOf ontology.now) }
+fn relation_of(closed: &Closed<'_>) -> Result<Relation, Memory>
+    requires unasked { IsUnasked closed.now.saturation }
+    ensures { IfOk result (IsTaxonomyOf closed.now.ontology) }
 {
-    ontology.well_formed();
-    let lists = class_lists(alloc, ontology, saturation.facts())?;
+    let alloc = closed.allocator();
+    closed.well_formed();
+    let lists = class_lists(alloc, closed.ontology(), closed.facts())?;
     let relation = Relation::of_superclasses(alloc, &lists)?;
     Ok(relation)
 }
 
 /// The taxonomy of the closure.
-pub(crate) fn taxonomy_of(
-    alloc: Global,
-    ontology: &Ontology,
-    saturation: &Saturation,
-) -> Result<Taxonomy, Memory>
-    requires saturated { IsSaturated ontology.now saturation.now }
-    requires unasked { IsUnasked saturation.now }
-    ensures { IfOk result (IsTaxonomyOf ontology.now) }
+pub(crate) fn taxonomy_of(closed: &Closed<'_>) -> Result<Taxonomy, Memory>
+    requires unasked { IsUnasked closed.now.saturation }
+    ensures { IfOk result (IsTaxonomyOf closed.now.ontology) }
 {
-    ontology.well_formed();
-    let relation = relation_of(alloc, ontology, saturation)?;
+    let alloc = closed.allocator();
+    closed.well_formed();
+    let relation = relation_of(closed)?;
     reduce(alloc, &relation)
 }

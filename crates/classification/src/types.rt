@@ -1,11 +1,11 @@
 //! Which individuals belong to which named classes.
 ghost use Rattle.classification.specs.Lists.{Adds, AreTypeLists, AreTypesOf, IsAboutIndividualOf, PutsInto};
-ghost use Rattle.engine.specs.Saturations.{IsSaturated, IsUnasked};
+ghost use Rattle.engine.specs.Saturations.{IsUnasked};
 ghost use Rattle.std.specs.Prelude.{◌≡◌, All, IfOk, OnOk, length};
 
 use crate::pairs::type_pair;
 use axioms::{Memory, Ontology};
-use engine::Saturation;
+use engine::Closed;
 use facts::StoredFact;
 use number_sets::{OpenLists, PackedLists};
 use std::alloc::Global;
@@ -40,15 +40,10 @@ fn type_lists(
 }
 
 /// For each individual the list of the classes that it belongs to by the closure.
-pub(crate) fn types_of(
-    alloc: Global,
-    ontology: &Ontology,
-    saturation: &Saturation,
-) -> Result<PackedLists, Memory>
-    requires saturated { IsSaturated ontology.now saturation.now }
-    requires unasked { IsUnasked saturation.now }
-    ensures { IfOk result (λ lists. AreTypesOf ontology.now lists) }
+pub(crate) fn types_of(closed: &Closed<'_>) -> Result<PackedLists, Memory>
+    requires unasked { IsUnasked closed.now.saturation }
+    ensures { IfOk result (λ lists. AreTypesOf closed.now.ontology lists) }
 {
-    ontology.well_formed();
-    type_lists(alloc, ontology, saturation.facts())
+    closed.well_formed();
+    type_lists(closed.allocator(), closed.ontology(), closed.facts())
 }

@@ -5,9 +5,9 @@ use Rattle.std.specs.Io.KnownBytes.{Keeps}
 use Rattle.std.proofs.KnownBytes.{Keeps-refl}
 use Rattle.axioms.specs.Ontology.{Ontology}
 use Rattle.axioms.specs.WellFormedness.{IsOntology}
-use Rattle.cert_check.specs.Conversions.{IsConversion}
-use Rattle.cert_check.specs.declared.conversion.ConvertFault.{ConvertFault}
-use Rattle.cert_check.specs.declared.conversion.ConvertFault.TheVariants.{BadText, Io, LaterPremise, Memory}
+use Rattle.certificate_text.specs.Conversions.{IsConversion}
+use Rattle.certificate_text.specs.declared.conversion.ConvertFault.{ConvertFault}
+use Rattle.certificate_text.specs.declared.conversion.ConvertFault.TheVariants.{BadText, Io, LaterPremise, Memory}
 use Rattle.certificate.specs.declared.format.Format.{Format}
 use Rattle.cli.proofs.Blamed.{IsCounted, some_failed}
 use Rattle.cli.proofs.Kept.{known_file, reads_file, refuses_file}

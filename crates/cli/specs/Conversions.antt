@@ -3,9 +3,9 @@ use Rattle.std.specs.Prelude.{◌≡◌, ℕ, List, Option, Result, Ok, Err}
 use Rattle.std.specs.Io.KnownBytes.{Keeps}
 use Rattle.axioms.specs.Ontology.{Ontology}
 use Rattle.axioms.specs.WellFormedness.{IsOntology}
-use Rattle.cert_check.specs.Conversions.{IsConversion, IsConvertFault}
-use Rattle.cert_check.specs.declared.conversion.ConvertFault.{ConvertFault}
-use Rattle.cert_check.specs.declared.conversion.ConvertFault.TheVariants as converting
+use Rattle.certificate_text.specs.Conversions.{IsConversion, IsConvertFault}
+use Rattle.certificate_text.specs.declared.conversion.ConvertFault.{ConvertFault}
+use Rattle.certificate_text.specs.declared.conversion.ConvertFault.TheVariants as converting
 use Rattle.certificate.specs.declared.format.Format.{Format}
 use Rattle.cli.specs.Checks.{AreKnown}
 use Rattle.cli.specs.Classifications.{IsRead}

@@ -1,8 +1,8 @@
 -- What is seen of the files of a run, and which of them the answers of its calls blame.
 use Rattle.std.specs.Prelude.{◌≡◌, ℕ, zero, suc, List, Bool, false, Option, Result, Ok, Err}
 use Rattle.std.specs.Io.KnownBytes.{Keeps}
-use Rattle.cert_check.specs.declared.conversion.ConvertFault.{ConvertFault}
-use Rattle.cert_check.specs.declared.conversion.ConvertFault.TheVariants as converting
+use Rattle.certificate_text.specs.declared.conversion.ConvertFault.{ConvertFault}
+use Rattle.certificate_text.specs.declared.conversion.ConvertFault.TheVariants as converting
 use Rattle.command_line.specs.declared.tasks.Conversion.{Conversion}
 use Rattle.command_line.specs.declared.tasks.Paths.{Paths}
 use Rattle.cli.specs.Messages.{read_path}

@@ -14,8 +14,8 @@ use Rattle.command_line.specs.declared.tasks.LineFault.{LineFault}
 use Rattle.command_line.specs.declared.tasks.Paths.{Paths}
 use Rattle.command_line.specs.declared.tasks.Question.{Question}
 use Rattle.command_line.specs.declared.tasks.Task.{Task}
-use Rattle.cert_check.specs.declared.conversion.ConvertFault.{ConvertFault}
-use Rattle.cert_check.specs.declared.conversion.ConvertFault.TheVariants as converting
+use Rattle.certificate_text.specs.declared.conversion.ConvertFault.{ConvertFault}
+use Rattle.certificate_text.specs.declared.conversion.ConvertFault.TheVariants as converting
 use Rattle.cli.specs.Checks.{IsCheckAnswer}
 use Rattle.cli.specs.Conversions.{IsConversionAnswer}
 use Rattle.cli.specs.declared.fault.ConversionFault.{ConversionFault}

@@ -1,6 +1,6 @@
 //! Why a document is not classified or checked, or its certificate not converted.
 
-use cert_check::ConvertFault;
+use certificate_text::ConvertFault;
 use profile::DocumentFault;
 use thiserror::Error;
 

@@ -23,8 +23,9 @@ mod speaking;
 mod starting;
 
 pub use axioms::Ontology;
-pub use cert_check::{ConvertFault, Reason, Verdict};
+pub use cert_check::{Reason, Verdict};
 pub use certificate::Format;
+pub use certificate_text::ConvertFault;
 pub use checking::{Checked, check_document};
 pub use classification::Summary;
 pub use classifying::classify_document;

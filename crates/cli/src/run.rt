@@ -19,8 +19,8 @@ use crate::printing::{
 use crate::sinks::sinks_of;
 use crate::sources::{check_sources, source_of};
 use crate::speaking::perform_session;
-use cert_check::ConvertFault;
 use certificate::Format;
+use certificate_text::ConvertFault;
 use classification::Summary;
 use command_line::{Command, Conversion, FormatNumber, LineFault, Paths, task};
 use device::Sink;

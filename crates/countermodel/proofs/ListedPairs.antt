@@ -1,5 +1,5 @@
 -- The pairs that the facts of a saturation give are the edges of the interpretation that its closure lists.
-use Rattle.std.proofs.Common.{◌≡◌, ◌↔◌, ℕ, ◌+◌, ◌<◌, inl, inr, List, [], ◌∷◌, length, get_or, slice_get, Some, Contains, AllPairs, refl, sym, ap, ◌∙◌, subst, subst₂, arith}
+use Rattle.std.proofs.Common.{◌≡◌, ◌↔◌, ℕ, ◌+◌, ◌<◌, inl, inr, List, [], ◌∷◌, length, get_or, slice_get, Some, Contains, AllPairs, sym, ap, ◌∙◌, subst, subst₂, arith}
 use Rattle.std.proofs.lemmas.Bool.{cases_lt}
 use Rattle.std.proofs.lemmas.List.Elements.{All-contains, Contains-get_or}
 use Rattle.std.proofs.lemmas.Option.{same_Some, slice_get_within, get_or_from_slice_get}
@@ -133,7 +133,7 @@ module _ (o : Ontology) (s : Saturated) (saturated : IsSaturated o s) (k : Known
   has_property x y q there =
       let f = facts.Edge x q y in
       let (n, at) = slice_get-from_Contains s.state.facts f there in
-      edges.has_property s.state.problem closed saturated.state.born n f at
+      edges.has_property s.state.problem closed saturated.born n f at
 
   sayer_edge : (x y : Context) (q r m n : ℕ) → slice_get elements m ≡ Some x → slice_get elements n ≡ Some y → IsAtOrBelow o asked (Property q) (Property r)
       → (f : code_fact.Fact) → Contains s.state.facts f → SaysFact begun f (Edge x (Property q) y) → IsGivenBy k elements f (pair r m n)

@@ -4,7 +4,8 @@ use Rattle.std.specs.Prelude.{codes}
 use Rattle.std.specs.List.{flat_map, enumerate_from}
 use Rattle.certificate.specs.Certificate.{Line, Listed}
 use Rattle.certificate.specs.declared.format.Format.{Format}
-use Rattle.certificate.specs.Text.{certificate_text, first_text, line_feed, lines_text, lettered_number, class_text, pairs_text, individual_text, claim_text, text_to_domain}
+use Rattle.certificate.specs.Text.{certificate_text, first_text, line_feed, lines_text, lettered_number, class_text, pairs_text, individual_text, claim_text}
+use Rattle.certificate_text.specs.LineText.{text_to_domain}
 
 regrouped : (h ls d cs ps is ks e f : List ℕ) → (((h ++ ls) ++ ((((d ++ cs) ++ ps) ++ is) ++ ks)) ++ e) ++ f ≡ (((((h ++ ls) ++ d) ++ cs) ++ ps) ++ is) ++ ks ++ (e ++ f)
 regrouped h ls d cs ps is ks e f = simp append_assoc

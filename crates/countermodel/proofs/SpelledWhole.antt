@@ -7,7 +7,8 @@ use Rattle.axioms.specs.Ontology.{Ontology}
 use Rattle.axioms.specs.WellFormedness.{IsOntology}
 use Rattle.certificate.specs.Certificate.{Line, Listed}
 use Rattle.certificate.specs.declared.format.Format.{Format}
-use Rattle.certificate.specs.Text.{class_text, pairs_text, individual_text, claim_text, text_to_domain}
+use Rattle.certificate.specs.Text.{class_text, pairs_text, individual_text, claim_text}
+use Rattle.certificate_text.specs.LineText.{text_to_domain}
 use Rattle.closure.specs.Closure.{Context}
 use Rattle.exactness.specs.ListedInterpretation.{AreSatisfiableContexts, IsConsistent}
 use Rattle.certificate.specs.View.{class_row_of, pair_row_of}

@@ -1,7 +1,6 @@
 //! Rows of classes.
 ghost use Rattle.certificate.specs.View.{class_row_of};
 ghost use Rattle.exactness.specs.ListedInterpretation.{IsBefore};
-ghost use Rattle.engine.specs.Saturations.{IsSaturated};
 ghost use Rattle.countermodel.specs.FactsOf.{AreFactsOf};
 ghost use Rattle.countermodel.specs.Sinks.{Adds};
 ghost use Rattle.countermodel.specs.Members.{AreMembers, AreRowsOf, HasNoMember, IsMember, IsOwnClass};
@@ -13,7 +12,7 @@ use crate::elements::Elements;
 use crate::sink::RowSink;
 use axioms::{ExprId, Memory, Ontology};
 use certificate::ClassRow;
-use engine::Saturation;
+use engine::Closed;
 use facts::{Fact, StoredFact};
 use normal_forms::Class2;
 use number_sets::OpenLists;
@@ -88,18 +87,18 @@ fn add_rows_of<S: RowSink<ClassRow>>(
 ///
 /// `Memory` where memory was refused; then some of them may be there.
 pub(crate) fn add_class_rows<S: RowSink<ClassRow>>(
-    alloc: Global,
-    ontology: &Ontology,
-    saturation: &Saturation,
+    closed: &Closed<'_>,
     elements: &Elements,
     facts: &[StoredFact],
     rows: &mut S,
 ) -> Result<(), Memory>
-    requires saturated { IsSaturated ontology.now saturation.now }
     requires ascend { AllPairs IsBefore elements.now }
-    requires facts { AreFactsOf elements.now saturation.now.state.facts facts.now }
-    ensures { OnOk result (Adds (λ rs. AreClassRows ontology.now saturation.now.normal.asked elements.now (map class_row_of rs)) (S.adds rows.old rows.new)) }
+    requires facts { AreFactsOf elements.now closed.now.saturation.state.facts facts.now }
+    ensures { OnOk result (Adds (λ rs. AreClassRows closed.now.ontology closed.now.saturation.normal.asked elements.now (map class_row_of rs)) (S.adds rows.old rows.new)) }
 {
+    let ontology = closed.ontology();
+    let alloc = closed.allocator();
+    closed.well_formed();
     ontology.bounded();
     let lists = members(alloc, ontology, elements, facts)?;
     add_rows_of(alloc, &lists, rows)

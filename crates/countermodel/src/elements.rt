@@ -6,13 +6,12 @@ ghost use Rattle.countermodel.specs.Elements.{contexts_of};
 ghost use Rattle.countermodel.specs.ContextLists.{AreAll, AreBefore, PlacesExpressions, PlacesIndividuals, place_in};
 ghost use Rattle.countermodel.specs.Leading.{AreGroupsOf, AreLinks, IsElementBy};
 ghost use Rattle.countermodel.specs.Sets.{IsAdmitted, IsWithin};
-ghost use Rattle.engine.specs.Saturations.{IsSaturated};
 ghost use Rattle.std.specs.Prelude.{◌≡◌, ◌<◌, ◌≤◌, ◌^◌, ◌↔◌, [], IfOk, IsTrue, MatchOption, OnOk, Some, List, length, slice_get, ℕ};
 
 use crate::groups::groups_of;
 use crate::satisfiable::Satisfiable;
 use axioms::{ExprId, IndId, Memory, Ontology};
-use engine::Saturation;
+use engine::Closed;
 use facts::Context;
 use indexes::Groups;
 use std::alloc::Global;
@@ -137,31 +136,22 @@ impl Elements {
     /// # Errors
     ///
     /// `Memory` where memory was refused, or there are 2^32 elements.
-    pub fn of(
-        alloc: Global,
-        ontology: &Ontology,
-        saturation: &Saturation,
-    ) -> Result<Elements, Memory>
-        requires { IsSaturated ontology.now saturation.now }
-        ensures { IfOk result (λ e. AreSatisfiableContexts ontology.now saturation.now.normal.asked e) }
+    pub fn of(closed: &Closed<'_>) -> Result<Elements, Memory>
+        ensures { IfOk result (λ e. AreSatisfiableContexts closed.now.ontology closed.now.saturation.normal.asked e) }
     {
-        let groups = groups_of(alloc, saturation)?;
-        Elements::by(alloc, ontology, saturation, &groups)
+        let groups = groups_of(closed);
+        Elements::by(closed, groups)
     }
 
     // The elements of a saturation, where the individuals form these groups.
-    pub(crate) fn by(
-        alloc: Global,
-        ontology: &Ontology,
-        saturation: &Saturation,
-        groups: &Groups,
-    ) -> Result<Elements, Memory>
-        requires saturated { IsSaturated ontology.now saturation.now }
-        requires groups { AreGroupsOf ontology.now saturation.now.normal.asked groups.now }
-        ensures { IfOk result (λ e. AreSatisfiableContexts ontology.now saturation.now.normal.asked e) }
+    pub(crate) fn by(closed: &Closed<'_>, groups: &Groups) -> Result<Elements, Memory>
+        requires groups { AreGroupsOf closed.now.ontology closed.now.saturation.normal.asked groups.now }
+        ensures { IfOk result (λ e. AreSatisfiableContexts closed.now.ontology closed.now.saturation.normal.asked e) }
     {
-        ontology.well_formed();
-        let satisfiable = Satisfiable::of(alloc, ontology, saturation)?;
+        let ontology = closed.ontology();
+        let alloc = closed.allocator();
+        closed.well_formed();
+        let satisfiable = Satisfiable::of(closed)?;
         Elements::among(alloc, ontology, &satisfiable, groups)
     }
 

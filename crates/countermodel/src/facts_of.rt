@@ -1,13 +1,11 @@
 //! The facts of contexts.
 ghost use Rattle.countermodel.specs.Elements.{contexts_of};
 ghost use Rattle.countermodel.specs.FactsOf.{AddsFacts, AreFactsOf};
-ghost use Rattle.engine.specs.Saturations.{IsFinished};
-ghost use Rattle.std.specs.Prelude.{◌<◌, ◌≡◌, All, IfOk, OnOk, length, true};
+ghost use Rattle.std.specs.Prelude.{◌<◌, All, IfOk, OnOk, length};
 
 use axioms::Memory;
-use engine::Saturation;
+use engine::Indexed;
 use facts::{Context, StoredFact};
-use std::alloc::Global;
 
 /// Adds the facts of these numbers.
 fn push_facts(
@@ -24,28 +22,20 @@ fn push_facts(
     Ok(())
 }
 
-/// The facts that put a class into one of the contexts, and the edges from them. The saturation was not released, and all its facts
-/// are served.
+/// The facts that put a class into one of the contexts, and the edges from them.
 pub(crate) fn facts_of(
-    alloc: Global,
-    saturation: &Saturation,
+    indexed: &Indexed<'_>,
     contexts: &[Context],
 ) -> Result<Vec<StoredFact>, Memory>
-    requires can_grow { saturation.now.can_grow ≡ true }
-    requires finished { IsFinished saturation.now }
-    ensures { IfOk result (λ facts. AreFactsOf (contexts_of contexts.now) saturation.now.state.facts facts.items) }
+    ensures { IfOk result (λ facts. AreFactsOf (contexts_of contexts.now) indexed.now.saturation.state.facts facts.items) }
 {
-    let all = saturation.facts();
+    let closed = indexed.closed();
+    let alloc = closed.allocator();
+    let all = closed.facts();
     let mut facts = Vec::new(alloc);
     for context in contexts {
-        let Some(classes) = saturation.classes_in(*context) else {
-            unreachable!()
-        };
-        push_facts(&mut facts, all, classes)?;
-        let Some(edges) = saturation.edges_from(*context) else {
-            unreachable!()
-        };
-        push_facts(&mut facts, all, edges)?;
+        push_facts(&mut facts, all, indexed.classes_in(*context))?;
+        push_facts(&mut facts, all, indexed.edges_from(*context))?;
     }
     Ok(facts)
 }

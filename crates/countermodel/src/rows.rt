@@ -2,7 +2,6 @@
 ghost use Rattle.axioms.specs.WellFormedness.{AreDistinct};
 ghost use Rattle.certificate.specs.View.{pair_row_of};
 ghost use Rattle.exactness.specs.ListedInterpretation.{AreSatisfiableContexts, IsBefore};
-ghost use Rattle.engine.specs.Saturations.{IsSaturated};
 ghost use Rattle.countermodel.specs.Edges.{IsGiven};
 ghost use Rattle.countermodel.specs.FactsOf.{AreFactsOf};
 ghost use Rattle.countermodel.specs.PairRows.{ArePairRows};
@@ -16,9 +15,9 @@ use crate::elements::Elements;
 use crate::grouped::add_grouped;
 use crate::pair::{Pair, PairRange, comes_before, put_in_order};
 use crate::sink::RowSink;
-use axioms::{Memory, Ontology, PropId};
+use axioms::{Memory, PropId};
 use certificate::PairRow;
-use engine::Saturation;
+use engine::Closed;
 use facts::StoredFact;
 use property_closure::PropertyClosure;
 use std::alloc::Global;
@@ -80,20 +79,18 @@ fn add_ranges<S: RowSink<PairRow>>(
 ///
 /// `Memory` where memory was refused; then some of them may be there.
 pub(crate) fn add_pair_rows<S: RowSink<PairRow>>(
-    alloc: Global,
-    ontology: &Ontology,
-    saturation: &Saturation,
+    closed: &Closed<'_>,
     elements: &Elements,
     facts: &[StoredFact],
     rows: &mut S,
 ) -> Result<(), Memory>
-    requires saturated { IsSaturated ontology.now saturation.now }
     requires ascend { AllPairs IsBefore elements.now }
-    requires facts { AreFactsOf elements.now saturation.now.state.facts facts.now }
-    ensures { OnOk result (Adds (λ rs. ArePairRows ontology.now saturation.now.normal.asked elements.now (map pair_row_of rs)) (S.adds rows.old rows.new)) }
+    requires facts { AreFactsOf elements.now closed.now.saturation.state.facts facts.now }
+    ensures { OnOk result (Adds (λ rs. ArePairRows closed.now.ontology closed.now.saturation.normal.asked elements.now (map pair_row_of rs)) (S.adds rows.old rows.new)) }
 {
-    ontology.well_formed();
-    let closure = saturation.closure();
+    let alloc = closed.allocator();
+    closed.well_formed();
+    let closure = closed.closure();
     let cuts = cuts_of(alloc, closure, elements, facts)?;
     match add_ranges(alloc, closure, elements, facts, &cuts, rows)? {
         None => Ok(()),
@@ -106,18 +103,13 @@ pub(crate) fn add_pair_rows<S: RowSink<PairRow>>(
 /// # Errors
 ///
 /// `Memory` where memory was refused.
-pub fn pair_rows(
-    alloc: Global,
-    ontology: &Ontology,
-    saturation: &Saturation,
-    elements: &Elements,
-) -> Result<Vec<PairRow>, Memory>
-    requires saturated { IsSaturated ontology.now saturation.now }
-    requires elements { AreSatisfiableContexts ontology.now saturation.now.normal.asked elements.now }
-    ensures { IfOk result (λ v. ArePairRows ontology.now saturation.now.normal.asked elements.now (map pair_row_of v.items)) }
+pub fn pair_rows(closed: &Closed<'_>, elements: &Elements) -> Result<Vec<PairRow>, Memory>
+    requires elements { AreSatisfiableContexts closed.now.ontology closed.now.saturation.normal.asked elements.now }
+    ensures { IfOk result (λ v. ArePairRows closed.now.ontology closed.now.saturation.normal.asked elements.now (map pair_row_of v.items)) }
 {
+    let alloc = closed.allocator();
     let mut rows = Vec::new(alloc);
-    let facts = saturation.facts();
-    add_pair_rows(alloc, ontology, saturation, elements, facts, &mut rows)?;
+    let facts = closed.facts();
+    add_pair_rows(closed, elements, facts, &mut rows)?;
     Ok(rows)
 }

@@ -3,7 +3,6 @@ ghost use Rattle.closure.specs.Closure.{Context as Context2};
 ghost use Rattle.exactness.specs.ListedInterpretation.{IsSatisfiable};
 ghost use Rattle.closure.specs.Denotations.{context_of};
 ghost use Rattle.countermodel.specs.Sets.{IsWithin, admits, holds};
-ghost use Rattle.engine.specs.Saturations.{IsSaturated};
 ghost use Rattle.facts.specs.declared.contexts.Context.{Context as Context3};
 ghost use Rattle.facts.specs.declared.contexts.Fact.TheVariants as said;
 ghost use Rattle.normal_forms.specs.declared.forms.Class2.TheVariants as classes;
@@ -11,7 +10,7 @@ ghost use Rattle.std.specs.Prelude.{◌↔◌, ◌≡◌, Contains, IfOk, Some, 
 
 use crate::context_set::ContextSet;
 use axioms::{ExprId, Memory, Ontology};
-use engine::Saturation;
+use engine::Closed;
 use facts::{Context, Fact, StoredFact};
 use normal_forms::Class2;
 use std::alloc::Global;
@@ -54,16 +53,13 @@ fn contexts_with(
 
 impl Satisfiable {
     /// What the facts say of contexts.
-    pub(crate) fn of(
-        alloc: Global,
-        ontology: &Ontology,
-        saturation: &Saturation,
-    ) -> Result<Satisfiable, Memory>
-        requires { IsSaturated ontology.now saturation.now }
-        ensures { IfOk result (λ s. (x : Context2) → (admits s x ≡ true) ↔ IsSatisfiable ontology.now saturation.now.normal.asked x) }
+    pub(crate) fn of(closed: &Closed<'_>) -> Result<Satisfiable, Memory>
+        ensures { IfOk result (λ s. (x : Context2) → (admits s x ≡ true) ↔ IsSatisfiable closed.now.ontology closed.now.saturation.normal.asked x) }
     {
-        ontology.well_formed();
-        let facts = saturation.facts();
+        let ontology = closed.ontology();
+        let alloc = closed.allocator();
+        closed.well_formed();
+        let facts = closed.facts();
         let things = contexts_with(alloc, ontology, facts, ExprId::THING)?;
         let nothings = contexts_with(alloc, ontology, facts, ExprId::NOTHING)?;
         Ok(Satisfiable { things, nothings })

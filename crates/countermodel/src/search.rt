@@ -7,7 +7,6 @@ ghost use Rattle.countermodel.specs.Leading.{AreGroupsOf, AreLinks, LeadsBy};
 ghost use Rattle.countermodel.specs.Reached.{IsReachedFrom};
 ghost use Rattle.countermodel.specs.Searching.{AddsContexts, IsEdgeTo, IsSearch, IsStart, LeadByFacts};
 ghost use Rattle.countermodel.specs.Sets.{IsWithin, holds};
-ghost use Rattle.engine.specs.Saturations.{IsFinished, IsSaturated};
 ghost use Rattle.facts.specs.declared.contexts.Context.{Context as Context3};
 ghost use Rattle.facts.specs.declared.contexts.Fact.TheVariants as said;
 ghost use Rattle.normal_forms.specs.declared.forms.Class2.TheVariants as classes;
@@ -15,7 +14,7 @@ ghost use Rattle.std.specs.Prelude.{◌<◌, ◌↔◌, ◌≡◌, [], All, Cont
 
 use crate::context_set::ContextSet;
 use axioms::{ExprId, IndId, Memory, Ontology};
-use engine::Saturation;
+use engine::Indexed;
 use facts::{Context, Fact, StoredFact};
 use indexes::Groups;
 use normal_forms::{Class2, PropId2};
@@ -77,34 +76,29 @@ fn leads(groups: &Groups, context: Context) -> bool
 }
 
 /// Whether the context has `owl:Nothing`.
-fn has_nothing(saturation: &Saturation, context: Context) -> bool
-    ensures { IsTrue result ↔ Contains saturation.now.state.facts (said.In (classes.Expr (record { 0 = 1 })) context) }
+fn has_nothing(indexed: &Indexed<'_>, context: Context) -> bool
+    ensures { IsTrue result ↔ Contains indexed.now.saturation.state.facts (said.In (classes.Expr (record { 0 = 1 })) context) }
 {
     let nothing = Fact::In(Class2::Expr(ExprId::NOTHING), context);
-    saturation.find(nothing).is_some()
+    indexed.find(nothing).is_some()
 }
 
 /// Where the fact leads to, if it is an edge of a property to a context that has an element.
-fn target_of(
-    ontology: &Ontology,
-    saturation: &Saturation,
-    groups: &Groups,
-    fact: &StoredFact,
-) -> Option<Context>
-    requires saturated { IsSaturated ontology.now saturation.now }
-    requires groups { AreGroupsOf ontology.now saturation.now.normal.asked groups.now }
-    requires there { Contains saturation.now.state.facts fact.now }
-    ensures { MatchOption result ((y : Context3) → IsEdgeTo ontology.now saturation.now.normal.asked fact.now y → ⊥)
-        (IsEdgeTo ontology.now saturation.now.normal.asked fact.now) }
+fn target_of(indexed: &Indexed<'_>, groups: &Groups, fact: &StoredFact) -> Option<Context>
+    requires groups { AreGroupsOf indexed.now.ontology indexed.now.saturation.normal.asked groups.now }
+    requires there { Contains indexed.now.saturation.state.facts fact.now }
+    ensures { MatchOption result ((y : Context3) → IsEdgeTo indexed.now.ontology indexed.now.saturation.normal.asked fact.now y → ⊥)
+        (IsEdgeTo indexed.now.ontology indexed.now.saturation.normal.asked fact.now) }
 {
-    ontology.well_formed();
+    let closed = indexed.closed();
+    closed.well_formed();
     let Fact::Edge(_, property, target) = fact.get() else {
         return None;
     };
     let PropId2::Property(_) = property else {
         return None;
     };
-    if leads(groups, target) && !has_nothing(saturation, target) {
+    if leads(groups, target) && !has_nothing(indexed, target) {
         return Some(target);
     }
     None
@@ -113,24 +107,23 @@ fn target_of(
 /// Adds the contexts with elements that the facts of these numbers lead to.
 fn follow(
     search: &mut ContextSearch,
-    ontology: &Ontology,
-    saturation: &Saturation,
+    indexed: &Indexed<'_>,
     groups: &Groups,
     numbers: &[u32],
 ) -> Result<(), Memory>
-    requires saturated { IsSaturated ontology.now saturation.now }
-    requires groups { AreGroupsOf ontology.now saturation.now.normal.asked groups.now }
-    requires there { All (λ n. n < length saturation.now.state.facts) numbers.now }
-    requires search { IsSearch ontology.now search.old }
-    ensures search { OnOk result (IsSearch ontology.now search.new) }
+    requires groups { AreGroupsOf indexed.now.ontology indexed.now.saturation.normal.asked groups.now }
+    requires there { All (λ n. n < length indexed.now.saturation.state.facts) numbers.now }
+    requires search { IsSearch indexed.now.ontology search.old }
+    ensures search { OnOk result (IsSearch indexed.now.ontology search.new) }
     ensures adds { OnOk result
-        (AddsContexts (LeadByFacts ontology.now saturation.now.normal.asked saturation.now.state.facts numbers.now) search.old.found.items search.new.found.items) }
+        (AddsContexts (LeadByFacts indexed.now.ontology indexed.now.saturation.normal.asked indexed.now.saturation.state.facts numbers.now) search.old.found.items search.new.found.items) }
 {
-    ontology.well_formed();
-    let facts = saturation.facts();
+    let closed = indexed.closed();
+    closed.well_formed();
+    let facts = closed.facts();
     for number in numbers {
         let fact = &facts[*number as usize];
-        if let Some(target) = target_of(ontology, saturation, groups, fact) {
+        if let Some(target) = target_of(indexed, groups, fact) {
             search.add(target)?;
         }
     }
@@ -159,32 +152,27 @@ fn begun(
     Ok(search)
 }
 
-/// The contexts that edges lead to from the context, which has an element, and from individuals, in a saturation that was not
-/// released and all of whose facts are served.
+/// The contexts that edges lead to from the context, which has an element, and from individuals.
 pub(crate) fn reached_from(
-    alloc: Global,
-    ontology: &Ontology,
-    saturation: &Saturation,
+    indexed: &Indexed<'_>,
     groups: &Groups,
     from: Context,
 ) -> Result<ContextSet, Memory>
-    requires saturated { IsSaturated ontology.now saturation.now }
-    requires groups { AreGroupsOf ontology.now saturation.now.normal.asked groups.now }
-    requires can_grow { saturation.now.can_grow ≡ true }
-    requires finished { IsFinished saturation.now }
-    requires within { IsWithin ontology.now (context_of from) }
-    ensures { IfOk result (λ s. (x : Context2) → (holds s x ≡ true) ↔ IsReachedFrom ontology.now saturation.now.normal.asked (context_of from) x) }
+    requires groups { AreGroupsOf indexed.now.ontology indexed.now.saturation.normal.asked groups.now }
+    requires within { IsWithin indexed.now.ontology (context_of from) }
+    ensures { IfOk result (λ s. (x : Context2) → (holds s x ≡ true) ↔ IsReachedFrom indexed.now.ontology indexed.now.saturation.normal.asked (context_of from) x) }
 {
-    ontology.well_formed();
+    let closed = indexed.closed();
+    let ontology = closed.ontology();
+    let alloc = closed.allocator();
+    closed.well_formed();
     let mut search = begun(alloc, ontology, groups, from)?;
     for next in 0..usize::MAX {
         if next >= search.found.len() {
             return Ok(search.seen);
         }
-        let Some(edges) = saturation.edges_from(search.found[next]) else {
-            unreachable!()
-        };
-        follow(&mut search, ontology, saturation, groups, edges)?;
+        let edges = indexed.edges_from(search.found[next]);
+        follow(&mut search, indexed, groups, edges)?;
     }
     Ok(search.seen)
 }

@@ -8,7 +8,8 @@ ghost use Rattle.std.specs.List.{flat_map};
 ghost use Rattle.std.specs.Prelude.{◌≡◌, ◌++◌, [], List, OnOk, map};
 
 use axioms::Memory;
-use certificate::{ClassRow, FormatType, ListedText, PairRow};
+use certificate::{ClassRow, FormatType, PairRow};
+use certificate_text::ListedText;
 
 /// Takes rows one after another, as values or as text.
 pub(crate) trait RowSink<R> {

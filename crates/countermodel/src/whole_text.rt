@@ -1,6 +1,5 @@
 //! The text of the interpretation that a closure lists.
 ghost use Rattle.exactness.specs.ListedInterpretation.{IsConsistent};
-ghost use Rattle.engine.specs.Saturations.{IsSaturated};
 ghost use Rattle.countermodel.specs.WholeText.{IsTextWithListed};
 ghost use Rattle.std.specs.Prelude.{IfOk};
 
@@ -11,9 +10,9 @@ use crate::groups::groups_of;
 use crate::individuals::individual_elements;
 use crate::rows::add_pair_rows;
 use axioms::{Memory, Ontology};
-use certificate::{FormatType, LineText};
-use engine::Saturation;
-use std::alloc::Global;
+use certificate::FormatType;
+use certificate_text::LineText;
+use engine::Closed;
 
 /// The text of the certificate of these lines and of the interpretation that the closure of a consistent ontology lists, with a claim
 /// for each satisfiable class, in the format of the lines. It is written row by row, of which at most one is kept.
@@ -22,24 +21,23 @@ use std::alloc::Global;
 ///
 /// `Memory` where memory was refused.
 pub fn text_with_listed<F: FormatType>(
-    alloc: Global,
-    ontology: &Ontology,
-    saturation: &Saturation,
+    closed: &Closed<'_>,
     lines: LineText<F>,
 ) -> Result<Vec<u8>, Memory>
-    requires saturated { IsSaturated ontology.now saturation.now }
-    requires consistent { IsConsistent ontology.now saturation.now.normal.asked }
-    ensures { IfOk result (λ v. IsTextWithListed ontology.now saturation.now.normal.asked F.format lines v.items) }
+    requires consistent { IsConsistent closed.now.ontology closed.now.saturation.normal.asked }
+    ensures { IfOk result (λ v. IsTextWithListed closed.now.ontology closed.now.saturation.normal.asked F.format lines v.items) }
 {
-    ontology.well_formed();
+    let ontology = closed.ontology();
+    let alloc = closed.allocator();
+    closed.well_formed();
     ontology.bounded();
-    let groups = groups_of(alloc, saturation)?;
-    let elements = Elements::by(alloc, ontology, saturation, &groups)?;
+    let groups = groups_of(closed);
+    let elements = Elements::by(closed, groups)?;
     let mut text = lines.with_domain(elements.len())?;
-    let facts = saturation.facts();
-    add_class_rows(alloc, ontology, saturation, &elements, facts, &mut text)?;
-    add_pair_rows(alloc, ontology, saturation, &elements, facts, &mut text)?;
-    let individuals = individual_elements(alloc, ontology, &groups, &elements)?;
+    let facts = closed.facts();
+    add_class_rows(closed, &elements, facts, &mut text)?;
+    add_pair_rows(closed, &elements, facts, &mut text)?;
+    let individuals = individual_elements(alloc, ontology, groups, &elements)?;
     let claims = own_claims(alloc, ontology, &elements)?;
     text.end(&individuals, &claims)
 }

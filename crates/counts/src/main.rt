@@ -14,7 +14,7 @@ mod rows;
 use crate::listing::listed;
 use axioms::Ontology;
 use device::{ReaderSource, Source, WriterSink, write_all};
-use engine::{Stop, saturated};
+use engine::{Saturation, Stop};
 use profile::{DocumentFault, read_document};
 use program::{Limits, MOST_BYTES, Status, Version};
 use std::alloc::{AllocError, Global};
@@ -36,9 +36,11 @@ fn counts(alloc: Global, ontology: &Ontology) -> Result<String, AllocError> {
 
 /// How many facts the closure of the ontology has.
 fn fact_count(alloc: Global, state: RandomState, ontology: &Ontology) -> Result<usize, Stop> {
-    let saturation = saturated(alloc, state, ontology, u32::MAX)?;
+    let mut saturation = Saturation::start(alloc, state, ontology)?;
+    let ended = saturation.resume(u32::MAX);
     let many = saturation.facts().len();
     drop(saturation);
+    ended?;
     Ok(many)
 }
 

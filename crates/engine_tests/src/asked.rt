@@ -1,18 +1,19 @@
 //! Saturations over which an expression is asked about, worked out by hand: facts, the lines that show them, and the elements of what
 //! they list.
 
-ghost use Rattle.engine.specs.Saturations.{IsFinished, IsSaturated, IsSound};
+ghost use Rattle.engine.specs.Saturations.{IsFinished, IsSound};
 ghost use Rattle.interpretation_spec.specs.NumberedInterpretation.{IsMadeFor};
 ghost use Rattle.normalise.specs.Growth.{Grows};
 ghost use Rattle.normalise.specs.Roots.{KeepsNames};
-ghost use Rattle.std.specs.Prelude.{◌≡◌, ◌<◌, IfOk, IfSome, true, length};
+ghost use Rattle.std.specs.Prelude.{◌<◌, IfOk, IfSome, length};
 
+use crate::ontologies::saturated;
 use axioms::{ExprId, Ontology};
 use cert_check::{Conclusion, Line, Subject};
 use classification::is_consistent;
 use countermodel::build;
 use device::SliceSource;
-use engine::{Saturation, Stop};
+use engine::{Closed, Indexed, Saturation, Stop};
 use explain::lines;
 use interpretation_spec::{Interpretation, Row};
 use profile::{Limits, Opened, Version, read_expression, read_opened};
@@ -130,10 +131,8 @@ fn say_answers(lines: &[Line], asked: &Asked) -> bool {
 }
 
 /// Whether there are such lines.
-fn has_lines(alloc: Global, ontology: &Ontology, saturation: &Saturation, asked: &Asked) -> bool
-    requires { IsSaturated ontology.now saturation.now }
-{
-    match lines(alloc, ontology, saturation) {
+fn has_lines(closed: &Closed<'_>, asked: &Asked) -> bool {
+    match lines(closed) {
         Ok(lines) => say_answers(&lines, asked),
         Err(_) => false,
     }
@@ -169,14 +168,13 @@ fn is_listed(ontology: &Ontology, made: &Interpretation, asked: &Asked) -> bool
 }
 
 /// Whether the interpretation that is listed has these elements.
-fn lists_members(alloc: Global, ontology: &Ontology, saturation: &Saturation, asked: &Asked) -> bool
-    requires { IsSaturated ontology.now saturation.now }
-{
-    if !is_consistent(ontology, saturation) {
+fn lists_members(indexed: &Indexed<'_>, asked: &Asked) -> bool {
+    if !is_consistent(indexed) {
         return false;
     }
-    match build(alloc, ontology, saturation) {
-        Ok(made) => is_listed(ontology, &made, asked),
+    let closed = indexed.closed();
+    match build(closed) {
+        Ok(made) => is_listed(closed.ontology(), &made, asked),
         Err(_) => false,
     }
 }
@@ -210,12 +208,11 @@ fn saturated_with(
     facts: u32,
 ) -> Result<Saturation, Stop>
     requires sound { IsSound old.now saturation.now }
-    requires can_grow { saturation.now.can_grow ≡ true }
     requires finished { IsFinished saturation.now }
     requires grows { Grows old.now new.now (length old.now.axioms) }
     requires names { KeepsNames old.now new.now }
     requires there { expression.0 < length new.now.nodes }
-    ensures { IfOk result (IsSaturated new.now) }
+    ensures { IfOk result (IsSound new.now) }
 {
     let mut asked = saturation.asked(old, new, expression)?;
     match asked.resume(facts) {
@@ -236,7 +233,6 @@ fn stops(
     facts: u32,
 ) -> bool
     requires sound { IsSound old.now saturation.now }
-    requires can_grow { saturation.now.can_grow ≡ true }
     requires finished { IsFinished saturation.now }
     requires grows { Grows old.now new.now (length old.now.axioms) }
     requires names { KeepsNames old.now new.now }
@@ -252,25 +248,21 @@ fn stops(
 }
 
 /// Whether the saturation with the expression is what was worked out, and the other one is as it was.
-fn is_right(
-    alloc: Global,
-    old: &Saturation,
-    ontology: &Ontology,
-    new: &Saturation,
-    asked: &Asked,
-) -> bool
-    requires { IsSaturated ontology.now new.now }
+fn is_right(old: &Saturation, ontology: &Ontology, new: &Saturation, asked: &Asked) -> bool
+    requires { IsSound ontology.now new.now }
 {
+    let Some(indexed) = new.indexed(ontology) else {
+        return false;
+    };
     is_ended(old, FACTS)
         && is_ended(new, asked.facts)
         && keeps_facts(old, new)
-        && has_lines(alloc, ontology, new, asked)
-        && lists_members(alloc, ontology, new, asked)
+        && has_lines(indexed.closed(), asked)
+        && lists_members(&indexed, asked)
 }
 
 /// Whether the expression, which is there under its number, is answered as it was worked out. Here alone its saturation is alive.
 fn answers(
-    alloc: Global,
     saturation: &Saturation,
     old: &Ontology,
     new: &Ontology,
@@ -278,7 +270,6 @@ fn answers(
     asked: &Asked,
 ) -> bool
     requires sound { IsSound old.now saturation.now }
-    requires can_grow { saturation.now.can_grow ≡ true }
     requires finished { IsFinished saturation.now }
     requires grows { Grows old.now new.now (length old.now.axioms) }
     requires names { KeepsNames old.now new.now }
@@ -289,7 +280,7 @@ fn answers(
     };
     let right = expression == ExprId(asked.number)
         && stops(saturation, old, new, expression, asked.facts)
-        && is_right(alloc, saturation, new, &with, asked);
+        && is_right(saturation, new, &with, asked);
     drop(with);
     right
 }
@@ -303,45 +294,19 @@ fn answers_text(
     asked: &Asked,
 ) -> bool
     requires sound { IsSound document.now.ontology saturation.now }
-    requires can_grow { saturation.now.can_grow ≡ true }
     requires finished { IsFinished saturation.now }
 {
     let Some((ontology, expression)) = read(alloc, state, document, asked.text) else {
         return false;
     };
-    let right = answers(
-        alloc,
-        saturation,
-        &document.ontology,
-        &ontology,
-        expression,
-        asked,
-    );
+    let right = answers(saturation, &document.ontology, &ontology, expression, asked);
     drop(ontology);
     right
 }
 
-/// A saturation of the ontology, run to its end, to which more may be added.
-fn begun(alloc: Global, state: RandomState, ontology: &Ontology) -> Option<Saturation>
-    ensures sound { IfSome result (IsSound ontology.now) }
-    ensures can_grow { IfSome result (λ s. s.can_grow ≡ true) }
-    ensures finished { IfSome result IsFinished }
-{
-    let Ok(mut saturation) = Saturation::start(alloc, state, ontology) else {
-        return None;
-    };
-    match saturation.resume(FACTS) {
-        Ok(()) => Some(saturation),
-        Err(_) => {
-            drop(saturation);
-            None
-        }
-    }
-}
-
 /// Whether what is asked about the document is answered as it was worked out. Here alone the saturation of the document is alive.
 fn answers_of(alloc: Global, state: RandomState, document: &Opened, asked: &Asked) -> bool {
-    let Some(saturation) = begun(alloc, state, &document.ontology) else {
+    let Ok(saturation) = saturated(alloc, state, &document.ontology, FACTS) else {
         return false;
     };
     let right = answers_text(alloc, state, document, &saturation, asked);

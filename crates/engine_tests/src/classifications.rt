@@ -1,8 +1,10 @@
 //! Small ontologies of subclass axioms, worked out by hand.
 
+use crate::ontologies::finished;
 use axioms::{ClassId, ExprId, IndId, Ontology};
 use cert_check::{Format, Verdict, check};
-use classification::{Classification, Stop, Summary, class_pair, classify, type_pair};
+use classification::{Classification, Summary, class_pair, type_pair};
+use engine::Stop;
 use facts::{Context, Fact, StoredFact};
 use normal_forms::Class2;
 use profile::{Version, read_bytes};
@@ -10,6 +12,19 @@ use std::alloc::Global;
 use std::hash::RandomState;
 use std::random::RandomSource;
 use std::test::Fail;
+
+/// The classification of the ontology within so many facts.
+fn classification_of(
+    alloc: Global,
+    state: RandomState,
+    ontology: &Ontology,
+    max_facts: u32,
+) -> Result<Classification, Stop> {
+    let finished = finished(alloc, state, ontology, max_facts)?;
+    let made = classification::classified(&finished.closed(ontology), Format::One);
+    drop(finished);
+    Ok(made?)
+}
 
 /// The ontology of the document, and its classification within so many facts.
 pub(crate) fn classified<R: AllocGlobal + RandomSource>(
@@ -19,7 +34,7 @@ pub(crate) fn classified<R: AllocGlobal + RandomSource>(
 ) -> Result<(Ontology, Result<Classification, Stop>), Fail> {
     let state = RandomState::new(rt)?;
     let ontology = read_bytes(rt.alloc(), document.as_bytes(), Version::Two, state)?;
-    let made = classify(rt.alloc(), state, &ontology, max_facts, Format::One);
+    let made = classification_of(rt.alloc(), state, &ontology, max_facts);
     Ok((ontology, made))
 }
 

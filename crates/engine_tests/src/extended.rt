@@ -3,8 +3,9 @@
 ghost use Rattle.engine.specs.Saturations.{IsSound};
 ghost use Rattle.normalise.specs.Growth.{Grows};
 ghost use Rattle.normalise.specs.Roots.{KeepsNames};
-ghost use Rattle.std.specs.Prelude.{◌≡◌, ◌<◌, IfSome, true, length};
+ghost use Rattle.std.specs.Prelude.{◌<◌, IfSome, length};
 
+use crate::ontologies::saturated;
 use axioms::{Axiom, Builder, ExprId, Kind, Name, Ontology};
 use engine::Saturation;
 use profile::{Version, read_bytes};
@@ -90,7 +91,6 @@ fn with_subclass(ontology: &Ontology, sub: &str, sup: &str) -> Option<Ontology>
 /// Whether the saturation grows so, and then runs so.
 fn extends(saturation: &mut Saturation, old: &Ontology, new: &Ontology, row: &Row) -> bool
     requires sound { IsSound old.now saturation.old }
-    requires can_grow { saturation.old.can_grow ≡ true }
     requires grows { Grows old.now new.now (length old.now.axioms) }
     requires names { KeepsNames old.now new.now }
 {
@@ -110,10 +110,10 @@ fn grows(alloc: Global, state: RandomState, ontology: &Ontology, row: &Row) -> b
     let Some(grown) = with_subclass(ontology, row.sub, row.sup) else {
         return false;
     };
-    let Ok(mut saturation) = Saturation::start(alloc, state, ontology) else {
+    let Ok(mut saturation) = saturated(alloc, state, ontology, 8) else {
         return false;
     };
-    let grows = saturation.resume(8) == Ok(()) && extends(&mut saturation, ontology, &grown, row);
+    let grows = extends(&mut saturation, ontology, &grown, row);
     drop(saturation);
     drop(grown);
     grows

@@ -1,9 +1,10 @@
-//! Facts that are found, and those of a context, before and after a saturation lets go what only a run needs.
+//! Facts that are found, and those of a context, once none is pending.
 
-ghost use Rattle.engine.specs.Saturations.{IsFinished};
+ghost use Rattle.engine.specs.Saturations.{IsSound};
 
+use crate::ontologies::saturated;
 use axioms::{ExprId, Ontology};
-use engine::Saturation;
+use engine::{Indexed, Saturation};
 use facts::{Context, Fact, FactId};
 use normal_forms::Class2;
 use profile::{Version, read_bytes};
@@ -20,65 +21,63 @@ const CLASSES_IN_A: usize = 3;
 const A: Context = Context::Expr(ExprId(2));
 
 /// Whether the fact is found at its number.
-fn is_found(saturation: &Saturation, number: usize, fact: Fact) -> bool {
+fn is_found(indexed: &Indexed<'_>, number: usize, fact: Fact) -> bool {
     match u32::try_from(number) {
-        Ok(number) => saturation.find(fact) == Some(FactId(number)),
+        Ok(number) => indexed.find(fact) == Some(FactId(number)),
         Err(_) => false,
     }
 }
 
 /// Whether each fact is found at its number, and one that is not there is not found.
-fn finds_all(saturation: &Saturation) -> bool {
-    for (number, fact) in saturation.facts().iter().enumerate() {
-        if !is_found(saturation, number, fact.get()) {
+fn finds_all(indexed: &Indexed<'_>) -> bool {
+    for (number, fact) in indexed.closed().facts().iter().enumerate() {
+        if !is_found(indexed, number, fact.get()) {
             return false;
         }
     }
     let absent = Fact::In(Class2::Expr(ExprId::NOTHING), A);
-    saturation.find(absent).is_none()
+    indexed.find(absent).is_none()
 }
 
 /// Whether the fact of that number puts a class into A.
-fn is_in_a(saturation: &Saturation, number: u32) -> bool {
-    match saturation.facts().get(number as usize) {
+fn is_in_a(indexed: &Indexed<'_>, number: u32) -> bool {
+    match indexed.closed().facts().get(number as usize) {
         Some(fact) => matches!(fact.get(), Fact::In(_, context) if context == A),
         None => false,
     }
 }
 
-/// How many facts are listed as those of A, if they are listed, and all are.
-fn listed_in_a(saturation: &Saturation) -> Option<usize> {
-    let numbers = saturation.classes_in(A)?;
+/// How many facts are listed as those of A, where all are.
+fn listed_in_a(indexed: &Indexed<'_>) -> Option<usize> {
+    let numbers = indexed.classes_in(A);
     for number in numbers {
-        if !is_in_a(saturation, *number) {
+        if !is_in_a(indexed, *number) {
             return None;
         }
     }
     Some(numbers.len())
 }
 
-/// Whether facts are found, but no list of a context is there, once what only a run needs is gone.
-fn are_found_still(saturation: Saturation) -> bool
-    requires { IsFinished saturation }
+/// Whether the saturation, if none of its facts is pending, finds and lists them.
+fn finds_and_lists(saturation: &Saturation, ontology: &Ontology) -> bool
+    requires { IsSound ontology.now saturation.now }
 {
-    let released = saturation.release();
-    finds_all(&released) && released.classes_in(A).is_none() && !released.can_grow()
+    match saturation.indexed(ontology) {
+        Some(indexed) => listed_in_a(&indexed) == Some(CLASSES_IN_A) && finds_all(&indexed),
+        None => false,
+    }
 }
 
-/// Whether the facts of the ontology are found, and listed once they are served.
+/// Whether the facts of the ontology are found and listed once they are served, and nothing is to be found before.
 fn are_found(alloc: Global, state: RandomState, ontology: &Ontology) -> bool {
     let Ok(mut saturation) = Saturation::start(alloc, state, ontology) else {
         return false;
     };
-    let is_unlisted = saturation.classes_in(A).is_none();
+    let is_pending = saturation.indexed(ontology).is_none();
     let has_run = saturation.resume(u32::MAX) == Ok(());
-    let is_listed = listed_in_a(&saturation) == Some(CLASSES_IN_A) && finds_all(&saturation);
-    let is_so = is_unlisted && has_run && is_listed && saturation.can_grow();
-    if saturation.is_finished() {
-        return is_so && are_found_still(saturation);
-    }
+    let are_found = finds_and_lists(&saturation, ontology);
     drop(saturation);
-    false
+    is_pending && has_run && are_found
 }
 
 #[test]
@@ -95,35 +94,30 @@ fn facts_are_found_and_listed(rt: HostRuntime) -> Result<(), Fail> {
 const WITH_EDGE: &str = "Ontology(SubClassOf(<x:A> ObjectSomeValuesFrom(<x:r> <x:B>)))";
 
 /// Whether the fact of that number is an edge from A.
-fn is_from_a(saturation: &Saturation, number: u32) -> bool {
-    match saturation.facts().get(number as usize) {
+fn is_from_a(indexed: &Indexed<'_>, number: u32) -> bool {
+    match indexed.closed().facts().get(number as usize) {
         Some(fact) => matches!(fact.get(), Fact::Edge(source, _, _) if source == A),
         None => false,
     }
 }
 
 /// Whether one fact is listed as an edge from A, and is one.
-fn has_one_edge(saturation: &Saturation) -> bool {
-    match saturation.edges_from(A) {
-        Some(numbers) => numbers.len() == 1 && is_from_a(saturation, numbers[0]),
-        None => false,
-    }
+fn has_one_edge(indexed: &Indexed<'_>) -> bool {
+    let numbers = indexed.edges_from(A);
+    numbers.len() == 1 && is_from_a(indexed, numbers[0])
 }
 
-/// Whether the edge is listed once all facts are served, and no list is there before and after the release.
+/// Whether the edge is listed once all facts are served.
 fn is_edge_listed(alloc: Global, state: RandomState, ontology: &Ontology) -> bool {
-    let Ok(mut saturation) = Saturation::start(alloc, state, ontology) else {
+    let Ok(saturation) = saturated(alloc, state, ontology, u32::MAX) else {
         return false;
     };
-    let is_unlisted = saturation.edges_from(A).is_none();
-    let has_run = saturation.resume(u32::MAX) == Ok(());
-    let is_listed = is_unlisted && has_run && has_one_edge(&saturation);
-    if saturation.is_finished() {
-        let released = saturation.release();
-        return is_listed && released.edges_from(A).is_none();
-    }
+    let is_listed = match saturation.indexed(ontology) {
+        Some(indexed) => has_one_edge(&indexed),
+        None => false,
+    };
     drop(saturation);
-    false
+    is_listed
 }
 
 #[test]

@@ -1,5 +1,8 @@
 //! The facts of small ontologies, worked out by hand.
 
+ghost use Rattle.engine.specs.Saturations.{IsFinished, IsSaturated, IsSound, IsUnasked, as_ended};
+ghost use Rattle.std.specs.Prelude.{IfOk};
+
 // Expressions have their numbers by where they stand first: the fifth is `ObjectSomeValuesFrom(:r :A)` in one document and C in
 // another, where `ObjectIntersectionOf(:B :C)` is the sixth.
 use crate::numbered::{
@@ -8,8 +11,8 @@ use crate::numbered::{
     IND1 as SECOND,
 };
 use axioms::{ExprId, Ontology};
-use engine::{Saturation, Stop, saturated};
-use facts::{Context, Fact, FactId};
+use engine::{Closed, Finished, Saturation, Stop};
+use facts::{Context, Fact, FactId, StoredFact};
 use profile::{Version, read_bytes};
 use std::alloc::Global;
 use std::hash::RandomState;
@@ -91,14 +94,50 @@ const ROWS: &[Row] = &[
     },
 ];
 
+/// A saturation of the ontology, run to its end, where it leads to at most so many facts.
+pub(crate) fn saturated(
+    alloc: Global,
+    state: RandomState,
+    ontology: &Ontology,
+    most: u32,
+) -> Result<Saturation, Stop>
+    ensures sound { IfOk result (IsSound ontology.now) }
+    ensures finished { IfOk result IsFinished }
+    ensures saturated { IfOk result (λ s. IsSaturated ontology.now (as_ended s)) }
+    ensures unasked { IfOk result (λ s. IsUnasked (as_ended s)) }
+{
+    let mut saturation = Saturation::start(alloc, state, ontology)?;
+    match saturation.resume(most) {
+        Ok(()) => Ok(saturation),
+        Err(stop) => {
+            drop(saturation);
+            Err(stop)
+        }
+    }
+}
+
+/// What is left of such a saturation without its tables.
+pub(crate) fn finished(
+    alloc: Global,
+    state: RandomState,
+    ontology: &Ontology,
+    most: u32,
+) -> Result<Finished, Stop>
+    ensures saturated { IfOk result (IsSaturated ontology.now) }
+    ensures unasked { IfOk result IsUnasked }
+{
+    let saturation = saturated(alloc, state, ontology, most)?;
+    Ok(saturation.finish())
+}
+
 /// Whether the facts are these and no others, where none of these stands twice.
-fn has_exactly(saturation: &Saturation, facts: &[Fact]) -> bool {
+fn are_exactly(known: &[StoredFact], facts: &[Fact]) -> bool {
     for fact in facts {
-        if !saturation.facts().iter().any(|known| known.get() == *fact) {
+        if !known.iter().any(|known| known.get() == *fact) {
             return false;
         }
     }
-    saturation.facts().len() == facts.len()
+    known.len() == facts.len()
 }
 
 /// Whether the ontology leads to these facts and no others.
@@ -109,13 +148,13 @@ fn leads_to(
     most: u32,
     facts: &[Fact],
 ) -> Result<bool, Stop> {
-    let saturation = saturated(alloc, state, ontology, most)?;
-    let fits = has_exactly(&saturation, facts);
-    drop(saturation);
+    let finished = finished(alloc, state, ontology, most)?;
+    let fits = are_exactly(finished.closed(ontology).facts(), facts);
+    drop(finished);
     Ok(fits)
 }
 
-/// Whether a start that stops at one fact too few goes on to all of them, which are served.
+/// Whether a start that stops at one fact too few goes on to all of them, which are served. With none pending it may be run again.
 fn resumes(saturation: &mut Saturation, facts: u32) -> bool {
     saturation.served() == 0
         && !saturation.is_finished()
@@ -125,6 +164,8 @@ fn resumes(saturation: &mut Saturation, facts: u32) -> bool {
         && saturation.facts().len() == facts as usize
         && saturation.served() == facts as usize
         && saturation.is_finished()
+        && saturation.resume(1) == Err(Stop::Limit)
+        && saturation.resume(100) == Ok(())
 }
 
 /// Whether a saturation of the ontology that stops goes on.
@@ -137,25 +178,58 @@ fn goes_on(alloc: Global, state: RandomState, ontology: &Ontology, facts: u32) -
     ends
 }
 
-/// Whether a saturation that let go what only its run needed has these facts, each with what gave it, and may be resumed.
-fn stays(saturation: &mut Saturation, facts: &[Fact]) -> bool {
-    has_exactly(saturation, facts)
-        && saturation.is_finished()
-        && saturation.served() == facts.len()
-        && saturation.born(FactId(0)).is_some()
-        && saturation.born(FactId(100)).is_none()
-        && saturation.resume(1) == Err(Stop::Limit)
-        && saturation.resume(100) == Ok(())
+/// Whether the fact of that number is the same in both, and was born alike.
+fn is_same(one: &Closed<'_>, other: &Closed<'_>, number: u32) -> bool {
+    let (born, known) = (FactId(number), other.facts().get(number as usize));
+    match (one.facts().get(number as usize), known) {
+        (Some(fact), Some(known)) => {
+            fact.get() == known.get() && one.born(born) == other.born(born)
+        }
+        _ => false,
+    }
 }
 
-/// Whether what is kept of a saturation that has run is read as that saturation is.
-fn is_kept(alloc: Global, state: RandomState, ontology: &Ontology, facts: &[Fact]) -> bool {
-    let Ok(mut kept) = saturated(alloc, state, ontology, 100) else {
+/// Whether both have so many facts, which are the same, and tell how these were born and no others.
+fn are_same(one: &Closed<'_>, other: &Closed<'_>, facts: u32) -> bool {
+    for number in 0..facts {
+        if !is_same(one, other, number) {
+            return false;
+        }
+    }
+    one.facts().len() == facts as usize
+        && other.facts().len() == facts as usize
+        && one.born(FactId(0)).is_some()
+        && one.born(FactId(facts)).is_none()
+        && other.born(FactId(facts)).is_none()
+}
+
+/// Whether the saturation, which has run, has the facts that are left without its tables.
+fn keeps_facts(
+    saturation: &Saturation,
+    ontology: &Ontology,
+    finished: &Finished,
+    facts: u32,
+) -> bool
+    requires sound { IsSound ontology.now saturation.now }
+    requires saturated { IsSaturated ontology.now finished.now }
+{
+    match saturation.indexed(ontology) {
+        Some(indexed) => are_same(indexed.closed(), &finished.closed(ontology), facts),
+        None => false,
+    }
+}
+
+/// Whether a run of the ontology has the same facts with its tables and without.
+fn is_kept(alloc: Global, state: RandomState, ontology: &Ontology, facts: u32) -> bool {
+    let Ok(saturation) = saturated(alloc, state, ontology, 100) else {
         return false;
     };
-    let right = stays(&mut kept, facts);
-    drop(kept);
-    right
+    let kept = match finished(alloc, state, ontology, 100) {
+        Ok(finished) => keeps_facts(&saturation, ontology, &finished, facts),
+        Err(_) => false,
+    };
+    drop(saturation);
+    kept
 }
 
 /// Whether the ontology leads to these facts and no others, stops where one fewer may be, and goes on then.
@@ -166,7 +240,7 @@ fn saturates(alloc: Global, state: RandomState, ontology: &Ontology, facts: &[Fa
     leads_to(alloc, state, ontology, count.saturating_sub(1), facts) == Err(Stop::Limit)
         && leads_to(alloc, state, ontology, 100, facts) == Ok(true)
         && goes_on(alloc, state, ontology, count)
-        && is_kept(alloc, state, ontology, facts)
+        && is_kept(alloc, state, ontology, count)
 }
 
 /// Whether the document is read and leads to its facts.

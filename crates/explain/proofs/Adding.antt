@@ -87,7 +87,7 @@ showing_none o s marks = record {
 pub older_shown : (o : Ontology) (s : Saturated) (marks : List Bool) (lines : List Line) (shown : List (List ℕ)) (k : ℕ) → IsSaturated o s → AreClosed s marks → IsMarked marks k → k ≡ length shown → k < length s.state.facts → IsShowing o s marks lines shown → AreOlderShown s lines shown k
 older_shown o s marks lines shown k saturated closed marked next l h r birth m rests f at =
     let fact = slice_get_there s.state.facts k l in
-    let below = rests_below s k m fact.0 r birth (saturated.state.born.born k fact.0 r fact.1 birth) (r, birth, rests) in
+    let below = rests_below s k m fact.0 r birth (saturated.born.born k fact.0 r fact.1 birth) (r, birth, rests) in
     h.each m f (omega (arith, below, next)) (closed k m marked (r, birth, rests)) at
 
 -- the next facts are not marked

@@ -238,7 +238,7 @@ each_there xs (m ∷ ms) (y ∷ ys) n e there = elim (Contains-cons_cases m n ms
 pub born_by : (o : Ontology) (s : Saturated) (n : ℕ) (r : Reason) (f : Fact) → IsSaturated o s → slice_get s.state.births n ≡ Some r → slice_get s.state.facts n ≡ Some f
     → (older : List Fact) × (map (slice_get s.state.facts) r.older ≡ map Some older) × Gives s.state.problem r.condition r.form older f
 born_by o s n r f saturated born there =
-    let (older, at, gives) = saturated.state.born.born n f r there born in
+    let (older, at, gives) = saturated.born.born n f r there born in
     (older, at_first_places n s.state.facts r.older older at, gives)
 
 module _ (o : Ontology) (s : Saturated) (saturated : IsSaturated o s) (n : ℕ) (r : Reason) (born : slice_get s.state.births n ≡ Some r) (m : ℕ) (place : r.form ≡ Some m) (of_form : NamesForm r.condition)

@@ -9,7 +9,7 @@ use Rattle.axioms.specs.View.{at_number, prop_numbers}
 use Rattle.axioms.specs.declared.ids.IndId.{IndId}
 use Rattle.axioms.specs.declared.ids.PropId.{PropId}
 use Rattle.certificate.specs.Certificate.{Subject, Conclusion, Edge, Line}
-use Rattle.certificate.specs.LineText.{source_of}
+use Rattle.certificate.specs.Certificate.{source_of}
 use Rattle.cert_check.specs.Derivation.{at_numbers}
 use Rattle.cert_check.specs.Lines.{IsWalk}
 use Rattle.closure.specs.Closure as definition

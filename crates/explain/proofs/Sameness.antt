@@ -131,8 +131,8 @@ module _ (o : Ontology) (s : Saturated) (saturated : IsSaturated o s) (n : ℕ) 
       -- no fact stands twice
       pub two_facts : g ≡ f → ⊥
       two_facts e =
-          let low = rests_below s n x.0 f r born (saturated.state.born.born n f r there born) (r, born, rests) in
-          let same : x.0 ≡ n = saturated.state.born.distinct x.0 n f (at_g ∙ ap Some e) there in
+          let low = rests_below s n x.0 f r born (saturated.born.born n f r there born) (r, born, rests) in
+          let same : x.0 ≡ n = saturated.born.distinct x.0 n f (at_g ∙ ap Some e) there in
           omega (arith, low, same)
 
 -- the lines of an edge of a saturation are some

@@ -8,7 +8,7 @@ use Rattle.axioms.specs.WellFormedness.{IsOntology}
 use Rattle.axioms.specs.View.{at_number}
 use Rattle.certificate.specs.Certificate.{Subject, Conclusion, Sub, Edge, Line}
 use Rattle.certificate.specs.Writability.{IsConclusionOf}
-use Rattle.certificate.specs.LineText.{source_of}
+use Rattle.certificate.specs.Certificate.{source_of}
 use Rattle.certificate.specs.declared.line.Rule.TheVariants.{K11}
 use Rattle.cert_check.specs.Derivation.{IsDerivation, IsDerived, at_numbers}
 use Rattle.cert_check.specs.Lines.{IsWalk}

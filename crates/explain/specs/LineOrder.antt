@@ -4,7 +4,7 @@ use Rattle.std.specs.List.{Contains}
 use Rattle.axioms.specs.Ontology.{Ontology}
 use Rattle.certificate.specs.Certificate.{Line}
 use Rattle.cert_check.specs.Derivation.{IsDerivation}
-use Rattle.engine.specs.Saturations.{Saturated, IsSaturated}
+use Rattle.engine.specs.Saturations.{Saturated}
 use Rattle.explain.specs.Marks.{IsMarked, AreClosed, EachIsCalledFor}
 use Rattle.explain.specs.Needs.{IsWanted}
 use Rattle.explain.specs.Uses.{IsPremise, RestsOn}
@@ -16,7 +16,6 @@ use Rattle.normalise.specs.Problem.{prefixes_of}
 
 -- the facts, the paths by their forms, and marks that are handed on, which may end before the facts
 pub record AreReady (o : Ontology) (s : Saturated) (forms : List Form) (marks : List Bool) : Type 0 where
-  pub saturated : IsSaturated o s
   pub paths : forms ≡ s.state.problem.forms
   pub within : length marks ≤ length s.state.facts
   pub closed : AreClosed s marks

@@ -3,6 +3,7 @@ use Rattle.std.specs.Prelude.{◌≡◌, ℕ, List, [], Bool, true, false, ◌&&
 use Rattle.std.specs.List.{Contains}
 use Rattle.certificate.specs.Certificate.{Line}
 use Rattle.engine.specs.Saturations.{Saturated}
+use Rattle.explain.specs.Conditions.{by_edge, by_loop, of_context}
 use Rattle.explain.specs.LinesOfFacts.{AreShowing}
 use Rattle.facts.specs.Births.{Reason}
 use Rattle.facts.specs.declared.contexts.Fact.{Fact}
@@ -28,8 +29,8 @@ by_axiom entries (Some n) = is_by_axiom (slice_get entries n)
 -- a line for a context itself and for a loop rests on none, one by a domain on the edge alone, and any other on all that gave it
 abbrev pub rests_on : List Entry → Reason → List ℕ
 rests_on entries r =
-    if (r.condition == 1) || (r.condition == 10) then []
-    else (if (r.condition == 7) && by_axiom entries r.form then take 1 r.older else r.older)
+    if (r.condition == of_context) || (r.condition == by_loop) then []
+    else (if (r.condition == by_edge) && by_axiom entries r.form then take 1 r.older else r.older)
 
 -- each older fact that the line of the n-th fact rests on is shown by the lines whose numbers stand in its list
 abbrev pub AreOlderShown : Saturated → List Line → List (List ℕ) → ℕ → Type 0

@@ -3,6 +3,7 @@ use Rattle.std.specs.Prelude.{◌≡◌, ℕ, suc, ◌<◌, ◌≤◌, ◌⊎◌
 use Rattle.std.specs.List.{Contains}
 use Rattle.certificate.specs.Certificate.{Line}
 use Rattle.engine.specs.Saturations.{Saturated}
+use Rattle.explain.specs.Conditions.{by_different, by_disjoint}
 use Rattle.explain.specs.OlderFacts.{rests_on}
 use Rattle.facts.specs.Births.{Reason}
 use Rattle.number_sets.specs.Pieces.{list_at}
@@ -25,7 +26,7 @@ Uses old new Given numbers = (n : ℕ) → n < length new → (length old ≤ n)
 
 -- the number that a birth by such a condition names, if any, is that of a form, and not that of a list of what is apart
 abbrev pub NamesForm : ℕ → Type 0
-NamesForm condition = (condition ≡ 12 → ⊥) × (condition ≡ 14 → ⊥)
+NamesForm condition = (condition ≡ by_different → ⊥) × (condition ≡ by_disjoint → ⊥)
 
 -- the form or list of that number gave the n-th fact, by that condition
 abbrev pub IsBornBy : Saturated → ℕ → ℕ → ℕ → Type 0

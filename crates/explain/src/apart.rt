@@ -1,19 +1,17 @@
 //! What lists of what is apart led to.
 ghost use Rattle.axioms.specs.declared.ids.IndId.{IndId as Ind};
 ghost use Rattle.cert_check.specs.Derivation.{IsDerivation};
-ghost use Rattle.engine.specs.Saturations.{IsSaturated};
+ghost use Rattle.explain.specs.Conditions.{by_different, by_disjoint};
 ghost use Rattle.explain.specs.LinesOfFacts.{Lengthens, ShowsFact};
-ghost use Rattle.explain.specs.OlderFacts.{AreOlderShown};
-ghost use Rattle.explain.specs.Paths.{IsChain};
-ghost use Rattle.explain.specs.Uses.{EachIsUsed, IsAmong, IsBornBy, Uses};
+ghost use Rattle.explain.specs.NextFact.{IsNext, ShowsNext};
+ghost use Rattle.explain.specs.Sameness.{HasNoneBehind, LeadBehind};
+ghost use Rattle.explain.specs.Uses.{IsAmong, IsBornBy, Uses};
 ghost use Rattle.facts.specs.Births.{reason};
-ghost use Rattle.facts.specs.Closure.{AreSame};
 ghost use Rattle.facts.specs.declared.contexts.Context.TheVariants.{Individual};
 ghost use Rattle.facts.specs.declared.contexts.Fact.TheVariants.{In};
-ghost use Rattle.normal_forms.specs.Apart.{AreListedAt};
 ghost use Rattle.normal_forms.specs.Forms.{AtOrderedPlaces};
 ghost use Rattle.normal_forms.specs.declared.forms.Class2.{Class2};
-ghost use Rattle.std.specs.Prelude.{◌↔◌, ◌≡◌, ◌<◌, [], Contains, IfOk, MatchOption, OnOk, Some, length, slice_get};
+ghost use Rattle.std.specs.Prelude.{◌↔◌, ◌≡◌, ◌<◌, [], Contains, IfOk, MatchOption, OnOk, Some, length};
 
 use crate::basis::Basis;
 use crate::between::chain_to_one;
@@ -41,19 +39,12 @@ pub(crate) fn shown_by_disjoint<L: LineSink>(
     birth: &Birth,
     list: u32,
 ) -> Result<LineNumbers, Memory>
-    requires saturated { IsSaturated basis.now.ontology.now basis.now.saturation.now }
-    requires there { fact.0 < length basis.now.saturation.now.state.facts }
-    requires derivation { IsDerivation basis.now.ontology.now derivation.old }
-    requires older { AreOlderShown basis.now.saturation.now derivation.old shown.now fact.0 }
-    requires birth { slice_get basis.now.saturation.now.state.births fact.0 ≡ Some (reason birth.now) }
+    requires next { IsNext basis.now.closed.now.ontology basis.now.closed.now.saturation derivation.old shown.now fact.0 (reason birth.now) }
     requires list { (reason birth.now).form ≡ Some list }
-    requires disjoint { (reason birth.now).condition ≡ 14 }
-    ensures derivation { OnOk result (IsDerivation basis.now.ontology.now derivation.new) }
-    ensures longer { OnOk result (Lengthens derivation.old derivation.new) }
-    ensures shown { IfOk result (λ numbers. ShowsFact basis.now.saturation.now derivation.new fact.0 numbers.items) }
-    ensures used { IfOk result (λ numbers. EachIsUsed basis.now.saturation.now shown.now fact.0 derivation.old derivation.new numbers.items) }
+    requires disjoint { (reason birth.now).condition ≡ by_disjoint }
+    ensures { IfOk result (λ numbers. ShowsNext basis.now.closed.now.ontology basis.now.closed.now.saturation shown.now fact.0 derivation.old derivation.new numbers.items) }
 {
-    basis.ontology.well_formed();
+    basis.closed.well_formed();
     let Older::Two(first, second) = birth.older() else {
         // Two facts are taken.
         unreachable!()
@@ -61,8 +52,8 @@ pub(crate) fn shown_by_disjoint<L: LineSink>(
     let mut numbers = shown.at(basis.alloc, first.0 as usize)?;
     let more = shown.at(basis.alloc, second.0 as usize)?;
     numbers.extend_from_slice(more.as_slice())?;
-    let fact = fact_of(basis.saturation, fact);
-    let axiom = basis.saturation.normal().disjoint_axiom(list as usize);
+    let fact = fact_of(basis.closed, fact);
+    let axiom = basis.closed.normal().disjoint_axiom(list as usize);
     let numbers = concluded(basis.alloc, derivation, fact, Rule::K7, axiom, numbers)?;
     Ok(numbers)
 }
@@ -86,15 +77,15 @@ fn chain_to_another(
     list: u32,
     individual: IndId,
 ) -> Result<Option<Vec<u32>>, Memory>
-    requires saturated { IsSaturated basis.now.ontology.now basis.now.saturation.now }
-    requires there { individual.0 < length basis.now.ontology.now.names.individuals }
-    ensures { IfOk result (λ found. MatchOption found ((other : Ind) → AreListedAt basis.now.saturation.now.normal.apart.individuals list individual other → AreSame basis.now.saturation.now.state.problem.forms individual other → ⊥) (λ v. (other : Ind) × AreListedAt basis.now.saturation.now.normal.apart.individuals list individual other × IsChain basis.now.saturation.now.state.problem.forms individual v.items other)) }
+    requires there { individual.0 < length basis.now.closed.now.ontology.names.individuals }
+    ensures { IfOk result (λ found. MatchOption found (HasNoneBehind basis.now.closed.now.saturation list individual) (λ v. LeadBehind basis.now.closed.now.saturation list individual v.items)) }
 {
-    basis.ontology.well_formed();
-    basis.ontology.bounded();
-    let normal = basis.saturation.normal();
+    basis.closed.well_formed();
+    let ontology = basis.closed.ontology();
+    ontology.bounded();
+    let normal = basis.closed.normal();
     let others = behind(normal.apart().individuals.at(list as usize), individual);
-    let individuals = basis.ontology.individuals().len();
+    let individuals = ontology.individuals().len();
     chain_to_one(basis.alloc, individuals, normal.forms(), individual, others)
 }
 
@@ -120,17 +111,16 @@ pub(crate) fn shown_by_different<L: LineSink>(
     fact: FactId,
     list: u32,
 ) -> Result<LineNumbers, Memory>
-    requires saturated { IsSaturated basis.now.ontology.now basis.now.saturation.now }
-    requires there { fact.0 < length basis.now.saturation.now.state.facts }
-    requires derivation { IsDerivation basis.now.ontology.now derivation.old }
-    requires born { IsBornBy basis.now.saturation.now fact.0 12 list }
-    ensures derivation { OnOk result (IsDerivation basis.now.ontology.now derivation.new) }
+    requires there { fact.0 < length basis.now.closed.now.saturation.state.facts }
+    requires derivation { IsDerivation basis.now.closed.now.ontology derivation.old }
+    requires born { IsBornBy basis.now.closed.now.saturation fact.0 by_different list }
+    ensures derivation { OnOk result (IsDerivation basis.now.closed.now.ontology derivation.new) }
     ensures longer { OnOk result (Lengthens derivation.old derivation.new) }
-    ensures shown { IfOk result (λ numbers. ShowsFact basis.now.saturation.now derivation.new fact.0 numbers.items) }
+    ensures shown { IfOk result (λ numbers. ShowsFact basis.now.closed.now.saturation derivation.new fact.0 numbers.items) }
     ensures used { IfOk result (λ numbers. Uses derivation.old derivation.new (IsAmong []) numbers.items) }
 {
-    basis.ontology.well_formed();
-    let fact = fact_of(basis.saturation, fact);
+    basis.closed.well_formed();
+    let fact = fact_of(basis.closed, fact);
     let Some(individual) = individual_of(fact) else {
         // An individual is in owl:Nothing.
         unreachable!()
@@ -143,7 +133,7 @@ pub(crate) fn shown_by_different<L: LineSink>(
     let number = same_along(basis, derivation, individual, &chain)?;
     let mut numbers = SmallVec::new(basis.alloc);
     numbers.push(number)?;
-    let axiom = basis.saturation.normal().different_axiom(list as usize);
+    let axiom = basis.closed.normal().different_axiom(list as usize);
     let numbers = concluded(basis.alloc, derivation, fact, Rule::K20, axiom, numbers)?;
     Ok(numbers)
 }

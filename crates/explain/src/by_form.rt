@@ -1,20 +1,19 @@
 //! What forms led to.
 ghost use Rattle.axioms.specs.View.{axiom_of};
 ghost use Rattle.axioms.specs.declared.ids.IndId.{IndId as Ind};
-ghost use Rattle.cert_check.specs.Derivation.{IsDerivation};
-ghost use Rattle.engine.specs.Saturations.{IsSaturated};
+ghost use Rattle.explain.specs.Conditions.{by_inclusion};
 ghost use Rattle.explain.specs.FormRule.{axiom_rule, expression_rule, inclusion_rule, origin_rule, stated_rule};
-ghost use Rattle.explain.specs.OlderFacts.{AreOlderShown};
+ghost use Rattle.explain.specs.NextFact.{IsNext, ShowsNext};
 ghost use Rattle.explain.specs.Premises.{TakesNoSame};
-ghost use Rattle.explain.specs.Uses.{EachIsUsed, NamesForm};
-ghost use Rattle.explain.specs.LinesOfFacts.{Lengthens, ShowsFact};
+ghost use Rattle.explain.specs.Uses.{NamesForm};
 ghost use Rattle.facts.specs.Births.{reason};
 ghost use Rattle.normal_forms.specs.declared.forms.Form.TheVariants.{N10};
 ghost use Rattle.normalise.specs.Entries.{origin_in};
-ghost use Rattle.std.specs.Prelude.{◌≡◌, ◌<◌, IfOk, OnOk, Some, length, option_map, slice_get};
+ghost use Rattle.std.specs.Prelude.{◌≡◌, IfOk, Some, option_map, slice_get};
 
 use crate::apart::{shown_by_different, shown_by_disjoint};
 use crate::basis::Basis;
+use crate::conditions::{BY_DIFFERENT, BY_DISJOINT, BY_INCLUSION};
 use crate::derivation::Derivation;
 use crate::exchange::handed_on;
 use crate::line::{concluded, fact_of};
@@ -83,9 +82,6 @@ fn origin_rule(
     }
 }
 
-/// The condition of a fact that a form of two classes led to.
-const BY_INCLUSION: u8 = 4;
-
 // The rule for a fact of a form of two classes, which has that number, and the number of the axiom that gave the form, if one did.
 fn inclusion_rule(normal: &Normal, number: u32) -> (Rule, Option<usize>)
     ensures { result ≡ inclusion_rule (option_map origin_in (slice_get normal.now.entries number)) }
@@ -107,26 +103,19 @@ fn shown_by_inclusion<L: LineSink>(
     birth: &Birth,
     form: u32,
 ) -> Result<LineNumbers, Memory>
-    requires saturated { IsSaturated basis.now.ontology.now basis.now.saturation.now }
-    requires there { fact.0 < length basis.now.saturation.now.state.facts }
-    requires derivation { IsDerivation basis.now.ontology.now derivation.old }
-    requires older { AreOlderShown basis.now.saturation.now derivation.old shown.now fact.0 }
-    requires birth { slice_get basis.now.saturation.now.state.births fact.0 ≡ Some (reason birth.now) }
+    requires next { IsNext basis.now.closed.now.ontology basis.now.closed.now.saturation derivation.old shown.now fact.0 (reason birth.now) }
     requires form { (reason birth.now).form ≡ Some form }
-    requires inclusion { (reason birth.now).condition ≡ 4 }
-    ensures derivation { OnOk result (IsDerivation basis.now.ontology.now derivation.new) }
-    ensures longer { OnOk result (Lengthens derivation.old derivation.new) }
-    ensures shown { IfOk result (λ numbers. ShowsFact basis.now.saturation.now derivation.new fact.0 numbers.items) }
-    ensures used { IfOk result (λ numbers. EachIsUsed basis.now.saturation.now shown.now fact.0 derivation.old derivation.new numbers.items) }
+    requires inclusion { (reason birth.now).condition ≡ by_inclusion }
+    ensures { IfOk result (λ numbers. ShowsNext basis.now.closed.now.ontology basis.now.closed.now.saturation shown.now fact.0 derivation.old derivation.new numbers.items) }
 {
-    basis.ontology.well_formed();
+    basis.closed.well_formed();
     let Older::One(older) = birth.older() else {
         // One fact is taken.
         unreachable!()
     };
     let numbers = shown.at(basis.alloc, older.0 as usize)?;
-    let fact = fact_of(basis.saturation, fact);
-    let (rule, axiom) = inclusion_rule(basis.saturation.normal(), form);
+    let fact = fact_of(basis.closed, fact);
+    let (rule, axiom) = inclusion_rule(basis.closed.normal(), form);
     let numbers = concluded(basis.alloc, derivation, fact, rule, axiom, numbers)?;
     Ok(numbers)
 }
@@ -142,27 +131,20 @@ fn shown_by_facts<L: LineSink>(
     form: u32,
     step: &Form,
 ) -> Result<LineNumbers, Memory>
-    requires saturated { IsSaturated basis.now.ontology.now basis.now.saturation.now }
-    requires paths { basis.now.paths.now ≡ basis.now.saturation.now.state.problem.forms }
-    requires there { fact.0 < length basis.now.saturation.now.state.facts }
-    requires derivation { IsDerivation basis.now.ontology.now derivation.old }
-    requires older { AreOlderShown basis.now.saturation.now derivation.old shown.now fact.0 }
-    requires birth { slice_get basis.now.saturation.now.state.births fact.0 ≡ Some (reason birth.now) }
+    requires paths { basis.now.paths.now ≡ basis.now.closed.now.saturation.state.problem.forms }
+    requires next { IsNext basis.now.closed.now.ontology basis.now.closed.now.saturation derivation.old shown.now fact.0 (reason birth.now) }
     requires form { (reason birth.now).form ≡ Some form }
-    requires step { slice_get basis.now.saturation.now.state.problem.forms form ≡ Some step.now }
+    requires step { slice_get basis.now.closed.now.saturation.state.problem.forms form ≡ Some step.now }
     requires facts { TakesNoSame step.now }
     requires of_form { NamesForm (reason birth.now).condition }
-    ensures derivation { OnOk result (IsDerivation basis.now.ontology.now derivation.new) }
-    ensures longer { OnOk result (Lengthens derivation.old derivation.new) }
-    ensures shown { IfOk result (λ numbers. ShowsFact basis.now.saturation.now derivation.new fact.0 numbers.items) }
-    ensures used { IfOk result (λ numbers. EachIsUsed basis.now.saturation.now shown.now fact.0 derivation.old derivation.new numbers.items) }
+    ensures { IfOk result (λ numbers. ShowsNext basis.now.closed.now.ontology basis.now.closed.now.saturation shown.now fact.0 derivation.old derivation.new numbers.items) }
 {
-    basis.ontology.well_formed();
-    let normal = basis.saturation.normal();
+    basis.closed.well_formed();
+    let normal = basis.closed.normal();
     let older = rests_on(normal, birth);
     let numbers = premises(basis, derivation, shown, older, step)?;
-    let fact = fact_of(basis.saturation, fact);
-    let (rule, axiom) = origin_rule(basis.ontology, normal, form, step);
+    let fact = fact_of(basis.closed, fact);
+    let (rule, axiom) = origin_rule(basis.closed.ontology(), normal, form, step);
     let numbers = concluded(basis.alloc, derivation, fact, rule, axiom, numbers)?;
     Ok(numbers)
 }
@@ -176,36 +158,23 @@ fn shown_by_same<L: LineSink>(
     birth: &Birth,
     form: u32,
 ) -> Result<LineNumbers, Memory>
-    requires saturated { IsSaturated basis.now.ontology.now basis.now.saturation.now }
-    requires there { fact.0 < length basis.now.saturation.now.state.facts }
-    requires derivation { IsDerivation basis.now.ontology.now derivation.old }
-    requires older { AreOlderShown basis.now.saturation.now derivation.old shown.now fact.0 }
-    requires birth { slice_get basis.now.saturation.now.state.births fact.0 ≡ Some (reason birth.now) }
+    requires next { IsNext basis.now.closed.now.ontology basis.now.closed.now.saturation derivation.old shown.now fact.0 (reason birth.now) }
     requires form { (reason birth.now).form ≡ Some form }
-    requires same { (i : Ind) × (j : Ind) × (slice_get basis.now.saturation.now.state.problem.forms form ≡ Some (N10 i j)) }
+    requires same { (i : Ind) × (j : Ind) × (slice_get basis.now.closed.now.saturation.state.problem.forms form ≡ Some (N10 i j)) }
     requires of_form { NamesForm (reason birth.now).condition }
-    ensures derivation { OnOk result (IsDerivation basis.now.ontology.now derivation.new) }
-    ensures longer { OnOk result (Lengthens derivation.old derivation.new) }
-    ensures shown { IfOk result (λ numbers. ShowsFact basis.now.saturation.now derivation.new fact.0 numbers.items) }
-    ensures used { IfOk result (λ numbers. EachIsUsed basis.now.saturation.now shown.now fact.0 derivation.old derivation.new numbers.items) }
+    ensures { IfOk result (λ numbers. ShowsNext basis.now.closed.now.ontology basis.now.closed.now.saturation shown.now fact.0 derivation.old derivation.new numbers.items) }
 {
-    basis.ontology.well_formed();
+    basis.closed.well_formed();
     let Older::One(older) = birth.older() else {
         // One fact is handed on.
         unreachable!()
     };
-    let given = fact_of(basis.saturation, older);
-    let fact = fact_of(basis.saturation, fact);
+    let given = fact_of(basis.closed, older);
+    let fact = fact_of(basis.closed, fact);
     let known = shown.at(basis.alloc, older.0 as usize)?;
     let numbers = handed_on(basis, derivation, known.as_slice(), form, given, fact)?;
     Ok(numbers)
 }
-
-/// The condition of a fact that two individuals led to that differ and are one.
-const BY_DIFFERENT: u8 = 12;
-
-/// The condition of a fact that two classes led to that have nothing in common.
-const BY_DISJOINT: u8 = 14;
 
 /// What a form led to, or a list of what is apart: adds the line of the fact, where it has one, and gives the numbers of the lines that
 /// show the fact. `number` is that of the form or of the list.
@@ -221,18 +190,12 @@ pub(crate) fn shown_by_form<L: LineSink>(
     birth: &Birth,
     number: u32,
 ) -> Result<LineNumbers, Memory>
-    requires saturated { IsSaturated basis.now.ontology.now basis.now.saturation.now }
-    requires paths { basis.now.paths.now ≡ basis.now.saturation.now.state.problem.forms }
-    requires there { fact.0 < length basis.now.saturation.now.state.facts }
-    requires derivation { IsDerivation basis.now.ontology.now derivation.old }
-    requires older { AreOlderShown basis.now.saturation.now derivation.old shown.now fact.0 }
-    requires birth { slice_get basis.now.saturation.now.state.births fact.0 ≡ Some (reason birth.now) }
+    requires paths { basis.now.paths.now ≡ basis.now.closed.now.saturation.state.problem.forms }
+    requires next { IsNext basis.now.closed.now.ontology basis.now.closed.now.saturation derivation.old shown.now fact.0 (reason birth.now) }
     requires form { (reason birth.now).form ≡ Some number }
-    ensures derivation { OnOk result (IsDerivation basis.now.ontology.now derivation.new) }
-    ensures longer { OnOk result (Lengthens derivation.old derivation.new) }
-    ensures shown { IfOk result (λ numbers. ShowsFact basis.now.saturation.now derivation.new fact.0 numbers.items) }
-    ensures used { IfOk result (λ numbers. EachIsUsed basis.now.saturation.now shown.now fact.0 derivation.old derivation.new numbers.items) }
+    ensures { IfOk result (λ numbers. ShowsNext basis.now.closed.now.ontology basis.now.closed.now.saturation shown.now fact.0 derivation.old derivation.new numbers.items) }
 {
+    basis.closed.well_formed();
     let condition = birth.condition();
     if condition == BY_INCLUSION {
         let numbers = shown_by_inclusion(basis, derivation, shown, fact, birth, number)?;
@@ -246,7 +209,7 @@ pub(crate) fn shown_by_form<L: LineSink>(
         let numbers = shown_by_different(basis, derivation, fact, number)?;
         return Ok(numbers);
     }
-    let step = basis.saturation.normal().forms().at(number as usize);
+    let step = basis.closed.normal().forms().at(number as usize);
     if let Form::N10(..) = step {
         let numbers = shown_by_same(basis, derivation, shown, fact, birth, number)?;
         return Ok(numbers);

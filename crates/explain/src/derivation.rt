@@ -2,7 +2,7 @@
 ghost use Rattle.axioms.specs.Ontology.{Ontology as Ontology2};
 ghost use Rattle.axioms.specs.View.{at_number};
 ghost use Rattle.cert_check.specs.Derivation.{IsDerivation, IsDerived};
-ghost use Rattle.certificate.specs.LineText.{source_of};
+ghost use Rattle.certificate.specs.Certificate.{source_of};
 ghost use Rattle.certificate.specs.View.{conclusion_of, subject_of};
 ghost use Rattle.explain.specs.Step.{line_by};
 ghost use Rattle.explain.specs.SameLines.{SaysSame};

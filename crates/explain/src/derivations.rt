@@ -6,7 +6,6 @@ ghost use Rattle.closure.specs.Closure.{Expression, In, IsFact, IsRoot};
 ghost use Rattle.closure.specs.Denotations.{context_of};
 ghost use Rattle.exactness.specs.Derivability.{subject_of};
 ghost use Rattle.exactness.specs.ListedInterpretation.{IsConsistent};
-ghost use Rattle.engine.specs.Saturations.{IsSaturated};
 ghost use Rattle.exactness.specs.Theorems.{HaveFacts};
 ghost use Rattle.explain.specs.Needs.{EachIsNeeded, ShowsContradiction};
 ghost use Rattle.normal_forms.specs.Forms.{Whole};
@@ -16,60 +15,52 @@ use crate::derivation::Derivation;
 use crate::shown::{add_goal, add_lines};
 use crate::sink::{LineList, LineSink, TextOfLines};
 use crate::wanted::{first_contradiction, number_of, wanted};
-use axioms::{ExprId, Memory, Ontology};
-use certificate::{FormatType, Line, LineText};
-use engine::Saturation;
+use axioms::{ExprId, Memory};
+use certificate::{FormatType, Line};
+use certificate_text::LineText;
+use engine::{Closed, Indexed};
 use facts::{Context, Fact};
 use normal_forms::Class2;
-use std::alloc::Global;
 
 /// Adds a derivation with a line for each named class or expression that is asked about that is a fact of a named class, of an
 /// individual or of an expression that is asked about.
 ///
 /// # Errors
 ///
-/// `Memory` where memory was refused, or 32 bits do not count the facts.
-fn add_facts<L: LineSink>(
-    alloc: Global,
-    ontology: &Ontology,
-    saturation: &Saturation,
-    derivation: &mut Derivation<L>,
-) -> Result<(), Memory>
-    requires saturated { IsSaturated ontology.now saturation.now }
+/// `Memory` where memory was refused.
+fn add_facts<L: LineSink>(closed: &Closed<'_>, derivation: &mut Derivation<L>) -> Result<(), Memory>
     requires none { derivation.old ≡ [] }
-    ensures derivation { OnOk result (IsDerivation ontology.now derivation.new) }
-    ensures facts { OnOk result (HaveFacts ontology.now saturation.now.normal.asked derivation.new) }
-    ensures needed { OnOk result (EachIsNeeded ontology.now saturation.now.normal.asked derivation.new) }
+    ensures derivation { OnOk result (IsDerivation closed.now.ontology derivation.new) }
+    ensures facts { OnOk result (HaveFacts closed.now.ontology closed.now.saturation.normal.asked derivation.new) }
+    ensures needed { OnOk result (EachIsNeeded closed.now.ontology closed.now.saturation.normal.asked derivation.new) }
 {
-    let normal = saturation.normal();
-    let marks = wanted(alloc, ontology, normal.asked(), saturation.facts())?;
-    add_lines(alloc, ontology, saturation, marks, derivation)
+    closed.well_formed();
+    let asked = closed.normal().asked();
+    let marks = wanted(closed.allocator(), closed.ontology(), asked, closed.facts())?;
+    add_lines(closed, marks, derivation)
 }
 
 /// Adds a derivation of a contradiction, where there is one.
 ///
 /// # Errors
 ///
-/// `Memory` where memory was refused, or 32 bits do not count the facts.
+/// `Memory` where memory was refused.
 fn add_contradiction<L: LineSink>(
-    alloc: Global,
-    ontology: &Ontology,
-    saturation: &Saturation,
+    closed: &Closed<'_>,
     derivation: &mut Derivation<L>,
 ) -> Result<(), Memory>
-    requires saturated { IsSaturated ontology.now saturation.now }
-    requires contradictory { IsConsistent ontology.now saturation.now.normal.asked → ⊥ }
+    requires contradictory { IsConsistent closed.now.ontology closed.now.saturation.normal.asked → ⊥ }
     requires none { derivation.old ≡ [] }
-    ensures derivation { OnOk result (IsDerivation ontology.now derivation.new) }
+    ensures derivation { OnOk result (IsDerivation closed.now.ontology derivation.new) }
     ensures shown { OnOk result (ShowsContradiction derivation.new) }
-    ensures needed { OnOk result (EachIsNeeded ontology.now saturation.now.normal.asked derivation.new) }
+    ensures needed { OnOk result (EachIsNeeded closed.now.ontology closed.now.saturation.normal.asked derivation.new) }
 {
-    ontology.well_formed();
-    let Some(goal) = first_contradiction(ontology, saturation.facts()) else {
+    closed.well_formed();
+    let Some(goal) = first_contradiction(closed.ontology(), closed.facts()) else {
         // With no such fact there is no contradiction.
         unreachable!()
     };
-    add_goal(alloc, ontology, saturation, goal, derivation)
+    add_goal(closed, goal, derivation)
 }
 
 /// A derivation with a line for each named class or expression that is asked about that is a fact of a named class, of an individual
@@ -77,19 +68,15 @@ fn add_contradiction<L: LineSink>(
 ///
 /// # Errors
 ///
-/// `Memory` where memory was refused, or 32 bits do not count the facts.
-pub fn lines(
-    alloc: Global,
-    ontology: &Ontology,
-    saturation: &Saturation,
-) -> Result<Vec<Line>, Memory>
-    requires { IsSaturated ontology.now saturation.now }
-    ensures derivation { IfOk result (λ v. IsDerivation ontology.now (lines_of v.items)) }
-    ensures facts { IfOk result (λ v. HaveFacts ontology.now saturation.now.normal.asked (lines_of v.items)) }
-    ensures needed { IfOk result (λ v. EachIsNeeded ontology.now saturation.now.normal.asked (lines_of v.items)) }
+/// `Memory` where memory was refused.
+pub fn lines(closed: &Closed<'_>) -> Result<Vec<Line>, Memory>
+    ensures derivation { IfOk result (λ v. IsDerivation closed.now.ontology (lines_of v.items)) }
+    ensures facts { IfOk result (λ v. HaveFacts closed.now.ontology closed.now.saturation.normal.asked (lines_of v.items)) }
+    ensures needed { IfOk result (λ v. EachIsNeeded closed.now.ontology closed.now.saturation.normal.asked (lines_of v.items)) }
 {
+    let alloc = closed.allocator();
     let mut derivation = Derivation::new(alloc, LineList::new(alloc));
-    add_facts(alloc, ontology, saturation, &mut derivation)?;
+    add_facts(closed, &mut derivation)?;
     Ok(derivation.into_sink().into_lines())
 }
 
@@ -97,20 +84,16 @@ pub fn lines(
 ///
 /// # Errors
 ///
-/// `Memory` where memory was refused, or 32 bits do not count the facts.
-pub fn contradiction(
-    alloc: Global,
-    ontology: &Ontology,
-    saturation: &Saturation,
-) -> Result<Vec<Line>, Memory>
-    requires saturated { IsSaturated ontology.now saturation.now }
-    requires contradictory { IsConsistent ontology.now saturation.now.normal.asked → ⊥ }
-    ensures derivation { IfOk result (λ v. IsDerivation ontology.now (lines_of v.items)) }
+/// `Memory` where memory was refused.
+pub fn contradiction(closed: &Closed<'_>) -> Result<Vec<Line>, Memory>
+    requires contradictory { IsConsistent closed.now.ontology closed.now.saturation.normal.asked → ⊥ }
+    ensures derivation { IfOk result (λ v. IsDerivation closed.now.ontology (lines_of v.items)) }
     ensures shown { IfOk result (λ v. ShowsContradiction (lines_of v.items)) }
-    ensures needed { IfOk result (λ v. EachIsNeeded ontology.now saturation.now.normal.asked (lines_of v.items)) }
+    ensures needed { IfOk result (λ v. EachIsNeeded closed.now.ontology closed.now.saturation.normal.asked (lines_of v.items)) }
 {
+    let alloc = closed.allocator();
     let mut derivation = Derivation::new(alloc, LineList::new(alloc));
-    add_contradiction(alloc, ontology, saturation, &mut derivation)?;
+    add_contradiction(closed, &mut derivation)?;
     Ok(derivation.into_sink().into_lines())
 }
 
@@ -118,28 +101,28 @@ pub fn contradiction(
 ///
 /// # Errors
 ///
-/// `Memory` where memory was refused, or 32 bits do not count the facts.
+/// `Memory` where memory was refused.
 pub fn lines_of(
-    alloc: Global,
-    ontology: &Ontology,
-    saturation: &Saturation,
+    indexed: &Indexed<'_>,
     subject: Context,
     class: ExprId,
 ) -> Result<Option<Vec<Line>>, Memory>
-    requires saturated { IsSaturated ontology.now saturation.now }
-    requires subject { IsRoot ontology.now saturation.now.normal.asked (context_of subject) }
-    requires class { IsRoot ontology.now saturation.now.normal.asked (Expression class.0) }
-    ensures derivation { IfOk result (λ found. IfSome found (λ v. IsDerivation ontology.now (lines_of v.items))) }
-    ensures shown { IfOk result (λ found. MatchOption found (IsFact ontology.now saturation.now.normal.asked (In (Whole class.0) (context_of subject)) → ⊥)
+    requires subject { IsRoot indexed.now.ontology indexed.now.saturation.normal.asked (context_of subject) }
+    requires class { IsRoot indexed.now.ontology indexed.now.saturation.normal.asked (Expression class.0) }
+    ensures derivation { IfOk result (λ found. IfSome found (λ v. IsDerivation indexed.now.ontology (lines_of v.items))) }
+    ensures shown { IfOk result (λ found. MatchOption found (IsFact indexed.now.ontology indexed.now.saturation.normal.asked (In (Whole class.0) (context_of subject)) → ⊥)
         (λ v. HasLine (lines_of v.items) (Sub (subject_of (context_of subject)) class.0))) }
-    ensures needed { IfOk result (λ found. IfSome found (λ v. EachIsNeeded ontology.now saturation.now.normal.asked (lines_of v.items))) }
+    ensures needed { IfOk result (λ found. IfSome found (λ v. EachIsNeeded indexed.now.ontology indexed.now.saturation.normal.asked (lines_of v.items))) }
 {
+    let closed = indexed.closed();
+    closed.well_formed();
     let wanted = Fact::In(Class2::Expr(class), subject);
-    let Some(goal) = number_of(saturation, wanted) else {
+    let Some(goal) = number_of(indexed, wanted) else {
         return Ok(None);
     };
+    let alloc = closed.allocator();
     let mut derivation = Derivation::new(alloc, LineList::new(alloc));
-    add_goal(alloc, ontology, saturation, goal, &mut derivation)?;
+    add_goal(closed, goal, &mut derivation)?;
     Ok(Some(derivation.into_sink().into_lines()))
 }
 
@@ -147,19 +130,15 @@ pub fn lines_of(
 ///
 /// # Errors
 ///
-/// `Memory` where memory was refused, or 32 bits do not count the facts.
-pub fn line_text<F: FormatType>(
-    alloc: Global,
-    ontology: &Ontology,
-    saturation: &Saturation,
-) -> Result<LineText<F>, Memory>
-    requires { IsSaturated ontology.now saturation.now }
-    ensures derivation { IfOk result (λ t. IsDerivation ontology.now t) }
-    ensures facts { IfOk result (λ t. HaveFacts ontology.now saturation.now.normal.asked t) }
-    ensures needed { IfOk result (λ t. EachIsNeeded ontology.now saturation.now.normal.asked t) }
+/// `Memory` where memory was refused.
+pub fn line_text<F: FormatType>(closed: &Closed<'_>) -> Result<LineText<F>, Memory>
+    ensures derivation { IfOk result (λ t. IsDerivation closed.now.ontology t) }
+    ensures facts { IfOk result (λ t. HaveFacts closed.now.ontology closed.now.saturation.normal.asked t) }
+    ensures needed { IfOk result (λ t. EachIsNeeded closed.now.ontology closed.now.saturation.normal.asked t) }
 {
+    let alloc = closed.allocator();
     let mut facts = Derivation::new(alloc, TextOfLines::<F>::new(alloc)?);
-    add_facts(alloc, ontology, saturation, &mut facts)?;
+    add_facts(closed, &mut facts)?;
     Ok(facts.into_sink().into_text())
 }
 
@@ -167,19 +146,15 @@ pub fn line_text<F: FormatType>(
 ///
 /// # Errors
 ///
-/// `Memory` where memory was refused, or 32 bits do not count the facts.
-pub fn contradiction_text<F: FormatType>(
-    alloc: Global,
-    ontology: &Ontology,
-    saturation: &Saturation,
-) -> Result<LineText<F>, Memory>
-    requires saturated { IsSaturated ontology.now saturation.now }
-    requires contradictory { IsConsistent ontology.now saturation.now.normal.asked → ⊥ }
-    ensures derivation { IfOk result (λ t. IsDerivation ontology.now t) }
+/// `Memory` where memory was refused.
+pub fn contradiction_text<F: FormatType>(closed: &Closed<'_>) -> Result<LineText<F>, Memory>
+    requires contradictory { IsConsistent closed.now.ontology closed.now.saturation.normal.asked → ⊥ }
+    ensures derivation { IfOk result (λ t. IsDerivation closed.now.ontology t) }
     ensures shown { IfOk result (λ t. ShowsContradiction t) }
-    ensures needed { IfOk result (λ t. EachIsNeeded ontology.now saturation.now.normal.asked t) }
+    ensures needed { IfOk result (λ t. EachIsNeeded closed.now.ontology closed.now.saturation.normal.asked t) }
 {
+    let alloc = closed.allocator();
     let mut derivation = Derivation::new(alloc, TextOfLines::<F>::new(alloc)?);
-    add_contradiction(alloc, ontology, saturation, &mut derivation)?;
+    add_contradiction(closed, &mut derivation)?;
     Ok(derivation.into_sink().into_text())
 }

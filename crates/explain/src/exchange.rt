@@ -2,7 +2,6 @@
 ghost use Rattle.cert_check.specs.Derivation.{IsDerivation};
 ghost use Rattle.certificate.specs.Certificate.{Subject as Subject2};
 ghost use Rattle.certificate.specs.View.{subject_of};
-ghost use Rattle.engine.specs.Saturations.{IsSaturated};
 ghost use Rattle.explain.specs.Exchanges.{HandsOnBy, HasEdges, IsExchange, LeadsFirstTo, WalksAlong};
 ghost use Rattle.explain.specs.LinesOfFacts.{AreShowingIn, Lengthens};
 ghost use Rattle.explain.specs.Search.{LinksBy};
@@ -54,17 +53,16 @@ fn class_exchanged<L: LineSink>(
     exchange: Exchange,
     class: Class2,
 ) -> Result<LineNumbers, Memory>
-    requires saturated { IsSaturated basis.now.ontology.now basis.now.saturation.now }
-    requires derivation { IsDerivation basis.now.ontology.now derivation.old }
-    requires linked { LinksBy basis.now.saturation.now.state.problem.forms exchange.form exchange.new exchange.old }
-    requires shown { AreShowingIn basis.now.saturation.now derivation.old known.now (In class (Individual exchange.old)) }
-    ensures derivation { OnOk result (IsDerivation basis.now.ontology.now derivation.new) }
+    requires derivation { IsDerivation basis.now.closed.now.ontology derivation.old }
+    requires linked { LinksBy basis.now.closed.now.saturation.state.problem.forms exchange.form exchange.new exchange.old }
+    requires shown { AreShowingIn basis.now.closed.now.saturation derivation.old known.now (In class (Individual exchange.old)) }
+    ensures derivation { OnOk result (IsDerivation basis.now.closed.now.ontology derivation.new) }
     ensures longer { OnOk result (Lengthens derivation.old derivation.new) }
-    ensures shown { IfOk result (λ v. AreShowingIn basis.now.saturation.now derivation.new v.items (In class (Individual exchange.new))) }
+    ensures shown { IfOk result (λ v. AreShowingIn basis.now.closed.now.saturation derivation.new v.items (In class (Individual exchange.new))) }
     ensures used { IfOk result (λ v. Uses derivation.old derivation.new (IsAmong known.now) v.items) }
 {
     let Exchange { form, old, new } = exchange;
-    let operands = operands(basis.alloc, basis.saturation.normal(), class)?;
+    let operands = operands(basis.alloc, basis.closed.normal(), class)?;
     let mut numbers = SmallVec::new(basis.alloc);
     for place in 0..known.len() {
         let same = same_line(basis, derivation, form, new, old)?;
@@ -101,18 +99,17 @@ fn source_exchanged<L: LineSink>(
     property: PropId2,
     target: Context,
 ) -> Result<LineNumbers, Memory>
-    requires saturated { IsSaturated basis.now.ontology.now basis.now.saturation.now }
-    requires derivation { IsDerivation basis.now.ontology.now derivation.old }
-    requires linked { LinksBy basis.now.saturation.now.state.problem.forms exchange.form exchange.new exchange.old }
-    requires shown { AreShowingIn basis.now.saturation.now derivation.old walk.now (Edge (Individual exchange.old) property target) }
+    requires derivation { IsDerivation basis.now.closed.now.ontology derivation.old }
+    requires linked { LinksBy basis.now.closed.now.saturation.state.problem.forms exchange.form exchange.new exchange.old }
+    requires shown { AreShowingIn basis.now.closed.now.saturation derivation.old walk.now (Edge (Individual exchange.old) property target) }
     requires some { 0 < length walk.now }
-    ensures derivation { OnOk result (IsDerivation basis.now.ontology.now derivation.new) }
+    ensures derivation { OnOk result (IsDerivation basis.now.closed.now.ontology derivation.new) }
     ensures longer { OnOk result (Lengthens derivation.old derivation.new) }
-    ensures shown { IfOk result (λ v. AreShowingIn basis.now.saturation.now derivation.new v.items (Edge (Individual exchange.new) property target)) }
+    ensures shown { IfOk result (λ v. AreShowingIn basis.now.closed.now.saturation derivation.new v.items (Edge (Individual exchange.new) property target)) }
     ensures used { IfOk result (λ v. Uses derivation.old derivation.new (IsAmong walk.now) v.items) }
 {
     let Exchange { form, old, new } = exchange;
-    let steps = steps(basis.alloc, basis.saturation.normal(), property)?;
+    let steps = steps(basis.alloc, basis.closed.normal(), property)?;
     let same = same_line(basis, derivation, form, new, old)?;
     let next = first_target(derivation, walk, target);
     let moved = Conclusion::Edge(Subject::Individual(new), steps[0], next);
@@ -133,19 +130,18 @@ fn target_exchanged<L: LineSink>(
     source: Context,
     property: PropId2,
 ) -> Result<LineNumbers, Memory>
-    requires saturated { IsSaturated basis.now.ontology.now basis.now.saturation.now }
-    requires derivation { IsDerivation basis.now.ontology.now derivation.old }
-    requires linked { LinksBy basis.now.saturation.now.state.problem.forms exchange.form exchange.new exchange.old }
-    requires shown { AreShowingIn basis.now.saturation.now derivation.old walk.now (Edge source property (Individual exchange.old)) }
+    requires derivation { IsDerivation basis.now.closed.now.ontology derivation.old }
+    requires linked { LinksBy basis.now.closed.now.saturation.state.problem.forms exchange.form exchange.new exchange.old }
+    requires shown { AreShowingIn basis.now.closed.now.saturation derivation.old walk.now (Edge source property (Individual exchange.old)) }
     requires some { 0 < length walk.now }
-    ensures derivation { OnOk result (IsDerivation basis.now.ontology.now derivation.new) }
+    ensures derivation { OnOk result (IsDerivation basis.now.closed.now.ontology derivation.new) }
     ensures longer { OnOk result (Lengthens derivation.old derivation.new) }
-    ensures shown { IfOk result (λ v. AreShowingIn basis.now.saturation.now derivation.new v.items (Edge source property (Individual exchange.new))) }
+    ensures shown { IfOk result (λ v. AreShowingIn basis.now.closed.now.saturation derivation.new v.items (Edge source property (Individual exchange.new))) }
     ensures used { IfOk result (λ v. Uses derivation.old derivation.new (IsAmong walk.now) v.items) }
 {
     let Exchange { form, old, new } = exchange;
     let last = walk.len() - 1;
-    let steps = steps(basis.alloc, basis.saturation.normal(), property)?;
+    let steps = steps(basis.alloc, basis.closed.normal(), property)?;
     let same = same_line(basis, derivation, form, new, old)?;
     let line = walk[last];
     let Some(before) = derivation.source(line) else {
@@ -173,15 +169,14 @@ pub(crate) fn handed_on<L: LineSink>(
     given: Fact,
     fact: Fact,
 ) -> Result<LineNumbers, Memory>
-    requires saturated { IsSaturated basis.now.ontology.now basis.now.saturation.now }
-    requires derivation { IsDerivation basis.now.ontology.now derivation.old }
-    requires hands { HandsOnBy basis.now.saturation.now.state.problem.forms form given fact }
+    requires derivation { IsDerivation basis.now.closed.now.ontology derivation.old }
+    requires hands { HandsOnBy basis.now.closed.now.saturation.state.problem.forms form given fact }
     requires two { given ≡ fact → ⊥ }
-    requires shown { AreShowingIn basis.now.saturation.now derivation.old known.now given }
+    requires shown { AreShowingIn basis.now.closed.now.saturation derivation.old known.now given }
     requires some { HasEdges given known.now }
-    ensures derivation { OnOk result (IsDerivation basis.now.ontology.now derivation.new) }
+    ensures derivation { OnOk result (IsDerivation basis.now.closed.now.ontology derivation.new) }
     ensures longer { OnOk result (Lengthens derivation.old derivation.new) }
-    ensures shown { IfOk result (λ v. AreShowingIn basis.now.saturation.now derivation.new v.items fact) }
+    ensures shown { IfOk result (λ v. AreShowingIn basis.now.closed.now.saturation derivation.new v.items fact) }
     ensures used { IfOk result (λ v. Uses derivation.old derivation.new (IsAmong known.now) v.items) }
 {
     match (given, fact) {

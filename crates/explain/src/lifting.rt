@@ -1,7 +1,6 @@
 //! Edges lifted to properties above their own.
 ghost use Rattle.axioms.specs.declared.ids.PropId.{PropId as Prop};
 ghost use Rattle.cert_check.specs.Derivation.{IsDerivation};
-ghost use Rattle.engine.specs.Saturations.{IsSaturated};
 ghost use Rattle.explain.specs.LiftedEdges.{IsStepOf, LiftsEdgeTo, ShowsLedOn};
 ghost use Rattle.explain.specs.Uses.{IsAmong, Uses};
 ghost use Rattle.explain.specs.LinesOfFacts.{AreShowingIn, Lengthens};
@@ -53,16 +52,15 @@ fn lifted_by<L: LineSink>(
     ends: Ends,
     form: u32,
 ) -> Result<LineNumbers, Memory>
-    requires saturated { IsSaturated basis.now.ontology.now basis.now.saturation.now }
-    requires derivation { IsDerivation basis.now.ontology.now derivation.old }
-    requires leads { (r : Prop) × (s : Prop) × LiftsEdgeTo basis.now.saturation.now derivation.old numbers.items ends.source ends.target form r s }
-    ensures derivation { OnOk result (IsDerivation basis.now.ontology.now derivation.new) }
+    requires derivation { IsDerivation basis.now.closed.now.ontology derivation.old }
+    requires leads { (r : Prop) × (s : Prop) × LiftsEdgeTo basis.now.closed.now.saturation derivation.old numbers.items ends.source ends.target form r s }
+    ensures derivation { OnOk result (IsDerivation basis.now.closed.now.ontology derivation.new) }
     ensures longer { OnOk result (Lengthens derivation.old derivation.new) }
-    ensures shown { IfOk result (λ v. ShowsLedOn basis.now.saturation.now derivation.old derivation.new numbers.items ends.source ends.target form v.items) }
+    ensures shown { IfOk result (λ v. ShowsLedOn basis.now.closed.now.saturation derivation.old derivation.new numbers.items ends.source ends.target form v.items) }
     ensures used { IfOk result (λ v. Uses derivation.old derivation.new (IsAmong numbers.items) v.items) }
 {
-    basis.ontology.well_formed();
-    let Some((above, axiom)) = step(basis.saturation.normal(), form as usize) else {
+    basis.closed.well_formed();
+    let Some((above, axiom)) = step(basis.closed.normal(), form as usize) else {
         // The form puts one property below another.
         unreachable!()
     };
@@ -91,14 +89,13 @@ pub(crate) fn lifted<L: LineSink>(
     property: PropId2,
     above: PropId2,
 ) -> Result<LineNumbers, Memory>
-    requires saturated { IsSaturated basis.now.ontology.now basis.now.saturation.now }
-    requires paths { basis.now.paths.now ≡ basis.now.saturation.now.state.problem.forms }
-    requires derivation { IsDerivation basis.now.ontology.now derivation.old }
-    requires shown { AreShowingIn basis.now.saturation.now derivation.old numbers.items (Edge ends.source property ends.target) }
-    requires below { IsAtOrBelow basis.now.saturation.now.state.problem.forms property above }
-    ensures derivation { OnOk result (IsDerivation basis.now.ontology.now derivation.new) }
+    requires paths { basis.now.paths.now ≡ basis.now.closed.now.saturation.state.problem.forms }
+    requires derivation { IsDerivation basis.now.closed.now.ontology derivation.old }
+    requires shown { AreShowingIn basis.now.closed.now.saturation derivation.old numbers.items (Edge ends.source property ends.target) }
+    requires below { IsAtOrBelow basis.now.closed.now.saturation.state.problem.forms property above }
+    ensures derivation { OnOk result (IsDerivation basis.now.closed.now.ontology derivation.new) }
     ensures longer { OnOk result (Lengthens derivation.old derivation.new) }
-    ensures shown { IfOk result (λ v. AreShowingIn basis.now.saturation.now derivation.new v.items (Edge ends.source above ends.target)) }
+    ensures shown { IfOk result (λ v. AreShowingIn basis.now.closed.now.saturation derivation.new v.items (Edge ends.source above ends.target)) }
     ensures used { IfOk result (λ v. Uses derivation.old derivation.new (IsAmong numbers.items) v.items) }
 {
     let (PropId2::Property(from), PropId2::Property(to)) = (property, above) else {

@@ -11,17 +11,17 @@ use crate::lines_by_fact::LineNumbers;
 use crate::sink::LineSink;
 use axioms::Memory;
 use certificate::{Conclusion, Rule, Subject};
-use engine::Saturation;
+use engine::Closed;
 use facts::{Context, Fact, FactId};
 use normal_forms::{Class2, PropId2};
 use smallvec::SmallVec;
 use std::alloc::Global;
 
-pub(crate) fn fact_of(saturation: &Saturation, number: FactId) -> Fact
-    requires { number.0 < length saturation.now.state.facts }
-    ensures { slice_get saturation.now.state.facts number.0 ≡ Some result }
+pub(crate) fn fact_of(closed: &Closed<'_>, number: FactId) -> Fact
+    requires { number.0 < length closed.now.saturation.state.facts }
+    ensures { slice_get closed.now.saturation.state.facts number.0 ≡ Some result }
 {
-    saturation.facts()[number.0 as usize].get()
+    closed.facts()[number.0 as usize].get()
 }
 
 /// The context as the subject of lines.

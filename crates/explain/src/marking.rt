@@ -5,7 +5,7 @@ ghost use Rattle.std.specs.Prelude.{◌↔◌, ◌<◌, ◌≤◌, ◌≡◌, �
 
 use crate::marks::is_blank;
 use crate::older::rests_on;
-use engine::Saturation;
+use engine::Closed;
 use facts::{FactId, Older};
 use number_sets::Row;
 
@@ -19,17 +19,18 @@ fn mark(marks: &mut Row, fact: FactId)
 }
 
 // Marks what the line of the fact rests on.
-fn mark_below(saturation: &Saturation, fact: FactId, marks: &mut Row)
-    requires there { fact.0 < length saturation.now.state.facts }
+fn mark_below(closed: &Closed<'_>, fact: FactId, marks: &mut Row)
+    requires there { fact.0 < length closed.now.saturation.state.facts }
     requires marked { fact.0 < length marks.old }
     ensures long { length marks.new ≡ length marks.old }
-    ensures exact { (n : ℕ) → IsMarked marks.new n ↔ (IsMarked marks.old n ⊎ RestsOn saturation.now fact.0 n) }
-    ensures older { (n : ℕ) → RestsOn saturation.now fact.0 n → n < fact.0 }
+    ensures exact { (n : ℕ) → IsMarked marks.new n ↔ (IsMarked marks.old n ⊎ RestsOn closed.now.saturation fact.0 n) }
+    ensures older { (n : ℕ) → RestsOn closed.now.saturation fact.0 n → n < fact.0 }
 {
-    let Some(birth) = saturation.born(fact) else {
+    closed.well_formed();
+    let Some(birth) = closed.born(fact) else {
         return;
     };
-    match rests_on(saturation.normal(), birth) {
+    match rests_on(closed.normal(), birth) {
         Older::None => {}
         Older::One(only) => mark(marks, only),
         Older::Two(first, second) => {
@@ -41,14 +42,14 @@ fn mark_below(saturation: &Saturation, fact: FactId, marks: &mut Row)
 
 /// Marks what the lines of marked facts rest on, and what the lines of those do. Of the last facts there may be no marks. Where 64
 /// facts in a row have no mark, it passes them by at once.
-pub(crate) fn mark_older(saturation: &Saturation, marks: &mut Row)
-    requires within { length marks.old ≤ length saturation.now.state.facts }
+pub(crate) fn mark_older(closed: &Closed<'_>, marks: &mut Row)
+    requires within { length marks.old ≤ length closed.now.saturation.state.facts }
     requires few { length marks.old < 2 ^ 32 }
     ensures long { length marks.new ≡ length marks.old }
     ensures kept { (n : ℕ) → IsMarked marks.old n → IsMarked marks.new n }
-    ensures closed { AreClosed saturation.now marks.new }
+    ensures closed { AreClosed closed.now.saturation marks.new }
     // What is marked was marked before, or the line of a later fact that is marked rests on it.
-    ensures only { (n : ℕ) → IsMarked marks.new n → IsMarked marks.old n ⊎ ServesLater saturation.now marks.new n }
+    ensures only { (n : ℕ) → IsMarked marks.new n → IsMarked marks.old n ⊎ ServesLater closed.now.saturation marks.new n }
 {
     let mut end = marks.len();
     while end > 0 {
@@ -57,7 +58,7 @@ pub(crate) fn mark_older(saturation: &Saturation, marks: &mut Row)
         } else {
             end -= 1;
             if marks.contains(end) {
-                mark_below(saturation, FactId(end as u32), marks);
+                mark_below(closed, FactId(end as u32), marks);
             }
         }
     }

@@ -3,6 +3,7 @@ ghost use Rattle.explain.specs.OlderFacts.{by_axiom, rests_on};
 ghost use Rattle.facts.specs.Births.{numbers_of, reason};
 ghost use Rattle.std.specs.Prelude.{◌≡◌, take};
 
+use crate::conditions::{BY_EDGE, BY_LOOP, OF_CONTEXT};
 use facts::{Birth, Older};
 use normal_forms::Origin;
 use normalise::Normal;
@@ -33,8 +34,8 @@ pub(crate) fn rests_on(normal: &Normal, birth: &Birth) -> Older
     ensures { numbers_of result ≡ rests_on normal.now.entries (reason birth.now) }
 {
     match birth.condition() {
-        1 | 10 => Older::None,
-        7 if is_by_axiom(normal, birth.form()) => first_alone(birth.older()),
+        OF_CONTEXT | BY_LOOP => Older::None,
+        BY_EDGE if is_by_axiom(normal, birth.form()) => first_alone(birth.older()),
         _ => birth.older(),
     }
 }

@@ -1,6 +1,5 @@
 //! What the line of a fact takes.
 ghost use Rattle.cert_check.specs.Derivation.{IsDerivation};
-ghost use Rattle.engine.specs.Saturations.{IsSaturated};
 ghost use Rattle.explain.specs.Premises as spec;
 ghost use Rattle.explain.specs.Premises.{LeadUpAt, LeadsUpAt, ShowsLedUp, ShowsTaken};
 ghost use Rattle.explain.specs.Uses.{IsAmong, IsAmongThose, Uses};
@@ -51,19 +50,18 @@ fn lifted_to<L: LineSink>(
     older: FactId,
     property: Option<PropId2>,
 ) -> Result<LineNumbers, Memory>
-    requires saturated { IsSaturated basis.now.ontology.now basis.now.saturation.now }
-    requires paths { basis.now.paths.now ≡ basis.now.saturation.now.state.problem.forms }
-    requires derivation { IsDerivation basis.now.ontology.now derivation.old }
-    requires there { older.0 < length basis.now.saturation.now.state.facts }
-    requires shown { ShowsFact basis.now.saturation.now derivation.old older.0 (list_at shown.now older.0) }
-    requires below { LeadsUpAt basis.now.saturation.now property older.0 }
-    ensures derivation { OnOk result (IsDerivation basis.now.ontology.now derivation.new) }
+    requires paths { basis.now.paths.now ≡ basis.now.closed.now.saturation.state.problem.forms }
+    requires derivation { IsDerivation basis.now.closed.now.ontology derivation.old }
+    requires there { older.0 < length basis.now.closed.now.saturation.state.facts }
+    requires shown { ShowsFact basis.now.closed.now.saturation derivation.old older.0 (list_at shown.now older.0) }
+    requires below { LeadsUpAt basis.now.closed.now.saturation property older.0 }
+    ensures derivation { OnOk result (IsDerivation basis.now.closed.now.ontology derivation.new) }
     ensures longer { OnOk result (Lengthens derivation.old derivation.new) }
-    ensures shown { IfOk result (λ v. ShowsLedUp basis.now.saturation.now derivation.new property older.0 v.items) }
+    ensures shown { IfOk result (λ v. ShowsLedUp basis.now.closed.now.saturation derivation.new property older.0 v.items) }
     ensures used { IfOk result (λ v. Uses derivation.old derivation.new (IsAmong (list_at shown.now older.0)) v.items) }
 {
     let known = shown.at(basis.alloc, older.0 as usize)?;
-    match (fact_of(basis.saturation, older), property) {
+    match (fact_of(basis.closed, older), property) {
         (Fact::Edge(source, below, target), Some(above)) => {
             let ends = Ends { source, target };
             let numbers = lifted(basis, derivation, known, ends, below, above)?;
@@ -86,15 +84,14 @@ pub(crate) fn premises<L: LineSink>(
     older: Older,
     form: &Form,
 ) -> Result<LineNumbers, Memory>
-    requires saturated { IsSaturated basis.now.ontology.now basis.now.saturation.now }
-    requires paths { basis.now.paths.now ≡ basis.now.saturation.now.state.problem.forms }
-    requires derivation { IsDerivation basis.now.ontology.now derivation.old }
-    requires there { (m : ℕ) → Contains (numbers_of older) m → m < length basis.now.saturation.now.state.facts }
-    requires shown { (m : ℕ) → Contains (numbers_of older) m → ShowsFact basis.now.saturation.now derivation.old m (list_at shown.now m) }
-    requires below { LeadUpAt basis.now.saturation.now form.now (numbers_of older) }
-    ensures derivation { OnOk result (IsDerivation basis.now.ontology.now derivation.new) }
+    requires paths { basis.now.paths.now ≡ basis.now.closed.now.saturation.state.problem.forms }
+    requires derivation { IsDerivation basis.now.closed.now.ontology derivation.old }
+    requires there { (m : ℕ) → Contains (numbers_of older) m → m < length basis.now.closed.now.saturation.state.facts }
+    requires shown { (m : ℕ) → Contains (numbers_of older) m → ShowsFact basis.now.closed.now.saturation derivation.old m (list_at shown.now m) }
+    requires below { LeadUpAt basis.now.closed.now.saturation form.now (numbers_of older) }
+    ensures derivation { OnOk result (IsDerivation basis.now.closed.now.ontology derivation.new) }
     ensures longer { OnOk result (Lengthens derivation.old derivation.new) }
-    ensures shown { IfOk result (λ v. ShowsTaken basis.now.saturation.now derivation.new form.now (numbers_of older) v.items) }
+    ensures shown { IfOk result (λ v. ShowsTaken basis.now.closed.now.saturation derivation.new form.now (numbers_of older) v.items) }
     ensures used { IfOk result (λ v. Uses derivation.old derivation.new (IsAmongThose shown.now (numbers_of older)) v.items) }
 {
     match older {

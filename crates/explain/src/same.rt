@@ -1,6 +1,5 @@
 //! Lines that say that individuals are one.
 ghost use Rattle.cert_check.specs.Derivation.{IsDerivation};
-ghost use Rattle.engine.specs.Saturations.{IsSaturated};
 ghost use Rattle.explain.specs.LinesOfFacts.{Lengthens};
 ghost use Rattle.explain.specs.Paths.{IsChain};
 ghost use Rattle.explain.specs.SameLines.{SaysSame};
@@ -43,10 +42,9 @@ pub(crate) fn same_line<L: LineSink>(
     first: IndId,
     second: IndId,
 ) -> Result<u64, Memory>
-    requires saturated { IsSaturated basis.now.ontology.now basis.now.saturation.now }
-    requires derivation { IsDerivation basis.now.ontology.now derivation.old }
-    requires linked { LinksBy basis.now.saturation.now.state.problem.forms form first second }
-    ensures derivation { OnOk result (IsDerivation basis.now.ontology.now derivation.new) }
+    requires derivation { IsDerivation basis.now.closed.now.ontology derivation.old }
+    requires linked { LinksBy basis.now.closed.now.saturation.state.problem.forms form first second }
+    ensures derivation { OnOk result (IsDerivation basis.now.closed.now.ontology derivation.new) }
     ensures longer { OnOk result (Lengthens derivation.old derivation.new) }
     ensures says { IfOk result (λ n. SaysSame derivation.new n first second) }
     ensures used { IfOk result (λ n. Uses derivation.old derivation.new (IsAmong []) (n ∷ [])) }
@@ -54,8 +52,8 @@ pub(crate) fn same_line<L: LineSink>(
     if let Some(number) = derivation.same(first, second) {
         return Ok(number);
     }
-    basis.ontology.well_formed();
-    let Some(axiom) = axiom_of(basis.saturation.normal(), form) else {
+    basis.closed.well_formed();
+    let Some(axiom) = axiom_of(basis.closed.normal(), form) else {
         // An axiom says that they are one.
         unreachable!()
     };
@@ -82,16 +80,16 @@ fn next_same<L: LineSink>(
     individual: IndId,
     form: u32,
 ) -> Result<(IndId, u64), Memory>
-    requires saturated { IsSaturated basis.now.ontology.now basis.now.saturation.now }
-    requires derivation { IsDerivation basis.now.ontology.now derivation.old }
-    requires linked { (j : Ind) × LinksBy basis.now.saturation.now.state.problem.forms form individual j }
-    ensures derivation { OnOk result (IsDerivation basis.now.ontology.now derivation.new) }
+    requires derivation { IsDerivation basis.now.closed.now.ontology derivation.old }
+    requires linked { (j : Ind) × LinksBy basis.now.closed.now.saturation.state.problem.forms form individual j }
+    ensures derivation { OnOk result (IsDerivation basis.now.closed.now.ontology derivation.new) }
     ensures longer { OnOk result (Lengthens derivation.old derivation.new) }
-    ensures only { IfOk result (λ p. (j : Ind) → LinksBy basis.now.saturation.now.state.problem.forms form individual j → j ≡ p.0) }
+    ensures only { IfOk result (λ p. (j : Ind) → LinksBy basis.now.closed.now.saturation.state.problem.forms form individual j → j ≡ p.0) }
     ensures says { IfOk result (λ p. SaysSame derivation.new p.1 individual p.0) }
     ensures used { IfOk result (λ p. Uses derivation.old derivation.new (IsAmong []) (p.1 ∷ [])) }
 {
-    let step = basis.saturation.normal().forms().at(form as usize);
+    basis.closed.well_formed();
+    let step = basis.closed.normal().forms().at(form as usize);
     let next = other(&step, individual);
     let number = same_line(basis, derivation, form, individual, next)?;
     Ok((next, number))
@@ -106,9 +104,9 @@ fn joined<L: LineSink>(
     before: u64,
     behind: u64,
 ) -> Result<u64, Memory>
-    requires derivation { IsDerivation basis.now.ontology.now derivation.old }
+    requires derivation { IsDerivation basis.now.closed.now.ontology derivation.old }
     requires says { (j : Ind) × SaysSame derivation.old before first j × SaysSame derivation.old behind j last }
-    ensures derivation { OnOk result (IsDerivation basis.now.ontology.now derivation.new) }
+    ensures derivation { OnOk result (IsDerivation basis.now.closed.now.ontology derivation.new) }
     ensures longer { OnOk result (Lengthens derivation.old derivation.new) }
     ensures says { IfOk result (λ n. SaysSame derivation.new n first last) }
     ensures used { IfOk result (λ n. Uses derivation.old derivation.new (IsAmong (before ∷ behind ∷ [])) (n ∷ [])) }
@@ -129,13 +127,12 @@ pub(crate) fn same_along<L: LineSink>(
     first: IndId,
     chain: &[u32],
 ) -> Result<u64, Memory>
-    requires saturated { IsSaturated basis.now.ontology.now basis.now.saturation.now }
-    requires derivation { IsDerivation basis.now.ontology.now derivation.old }
+    requires derivation { IsDerivation basis.now.closed.now.ontology derivation.old }
     requires some { 0 < length chain.now }
-    requires chain { (j : Ind) × IsChain basis.now.saturation.now.state.problem.forms first chain.now j }
-    ensures derivation { OnOk result (IsDerivation basis.now.ontology.now derivation.new) }
+    requires chain { (j : Ind) × IsChain basis.now.closed.now.saturation.state.problem.forms first chain.now j }
+    ensures derivation { OnOk result (IsDerivation basis.now.closed.now.ontology derivation.new) }
     ensures longer { OnOk result (Lengthens derivation.old derivation.new) }
-    ensures says { IfOk result (λ n. (j : Ind) → IsChain basis.now.saturation.now.state.problem.forms first chain.now j → SaysSame derivation.new n first j) }
+    ensures says { IfOk result (λ n. (j : Ind) → IsChain basis.now.closed.now.saturation.state.problem.forms first chain.now j → SaysSame derivation.new n first j) }
     ensures used { IfOk result (λ n. Uses derivation.old derivation.new (IsAmong []) (n ∷ [])) }
 {
     let (mut at, mut number) = next_same(basis, derivation, first, chain[0])?;

@@ -1,12 +1,10 @@
 //! What shows a fact.
 ghost use Rattle.cert_check.specs.Derivation.{IsDerivation};
-ghost use Rattle.engine.specs.Saturations.{IsSaturated};
 ghost use Rattle.explain.specs.OlderFacts.{AreOlderShown};
 ghost use Rattle.explain.specs.ContextRule.{context_rule};
-ghost use Rattle.explain.specs.Uses.{EachIsUsed};
-ghost use Rattle.explain.specs.LinesOfFacts.{Lengthens, ShowsFact};
+ghost use Rattle.explain.specs.NextFact.{IsNext, ShowsNext};
 ghost use Rattle.facts.specs.Births.{reason};
-ghost use Rattle.std.specs.Prelude.{◌≡◌, ◌<◌, IfOk, None, OnOk, Some, length, slice_get};
+ghost use Rattle.std.specs.Prelude.{◌≡◌, ◌<◌, IfOk, None, length};
 
 use crate::basis::Basis;
 use crate::by_form::shown_by_form;
@@ -39,30 +37,23 @@ fn shown_without_form<L: LineSink>(
     fact: FactId,
     birth: &Birth,
 ) -> Result<LineNumbers, Memory>
-    requires saturated { IsSaturated basis.now.ontology.now basis.now.saturation.now }
-    requires there { fact.0 < length basis.now.saturation.now.state.facts }
-    requires derivation { IsDerivation basis.now.ontology.now derivation.old }
-    requires older { AreOlderShown basis.now.saturation.now derivation.old shown.now fact.0 }
-    requires birth { slice_get basis.now.saturation.now.state.births fact.0 ≡ Some (reason birth.now) }
+    requires next { IsNext basis.now.closed.now.ontology basis.now.closed.now.saturation derivation.old shown.now fact.0 (reason birth.now) }
     requires form { (reason birth.now).form ≡ None }
-    ensures derivation { OnOk result (IsDerivation basis.now.ontology.now derivation.new) }
-    ensures longer { OnOk result (Lengthens derivation.old derivation.new) }
-    ensures shown { IfOk result (λ numbers. ShowsFact basis.now.saturation.now derivation.new fact.0 numbers.items) }
-    ensures used { IfOk result (λ numbers. EachIsUsed basis.now.saturation.now shown.now fact.0 derivation.old derivation.new numbers.items) }
+    ensures { IfOk result (λ numbers. ShowsNext basis.now.closed.now.ontology basis.now.closed.now.saturation shown.now fact.0 derivation.old derivation.new numbers.items) }
 {
-    basis.ontology.well_formed();
+    basis.closed.well_formed();
     match birth.older() {
         Older::Two(edge, class) => {
             let walk = shown.at(basis.alloc, edge.0 as usize)?;
             let ends = shown.at(basis.alloc, class.0 as usize)?;
             let end = ends.as_slice()[0];
-            let number = carried_back(basis.ontology, derivation, walk.as_slice(), end)?;
+            let number = carried_back(basis.closed, derivation, walk.as_slice(), end)?;
             let mut numbers = SmallVec::new(basis.alloc);
             numbers.push(number)?;
             Ok(numbers)
         }
         _ => {
-            let fact = fact_of(basis.saturation, fact);
+            let fact = fact_of(basis.closed, fact);
             let none = SmallVec::new(basis.alloc);
             let numbers = concluded(basis.alloc, derivation, fact, rule(fact), None, none)?;
             Ok(numbers)
@@ -82,17 +73,14 @@ pub(crate) fn show<L: LineSink>(
     shown: &LinesByFact,
     fact: FactId,
 ) -> Result<LineNumbers, Memory>
-    requires saturated { IsSaturated basis.now.ontology.now basis.now.saturation.now }
-    requires paths { basis.now.paths.now ≡ basis.now.saturation.now.state.problem.forms }
-    requires there { fact.0 < length basis.now.saturation.now.state.facts }
-    requires derivation { IsDerivation basis.now.ontology.now derivation.old }
-    requires older { AreOlderShown basis.now.saturation.now derivation.old shown.now fact.0 }
-    ensures derivation { OnOk result (IsDerivation basis.now.ontology.now derivation.new) }
-    ensures longer { OnOk result (Lengthens derivation.old derivation.new) }
-    ensures shown { IfOk result (λ numbers. ShowsFact basis.now.saturation.now derivation.new fact.0 numbers.items) }
-    ensures used { IfOk result (λ numbers. EachIsUsed basis.now.saturation.now shown.now fact.0 derivation.old derivation.new numbers.items) }
+    requires paths { basis.now.paths.now ≡ basis.now.closed.now.saturation.state.problem.forms }
+    requires there { fact.0 < length basis.now.closed.now.saturation.state.facts }
+    requires derivation { IsDerivation basis.now.closed.now.ontology derivation.old }
+    requires older { AreOlderShown basis.now.closed.now.saturation derivation.old shown.now fact.0 }
+    ensures { IfOk result (λ numbers. ShowsNext basis.now.closed.now.ontology basis.now.closed.now.saturation shown.now fact.0 derivation.old derivation.new numbers.items) }
 {
-    let Some(birth) = basis.saturation.born(fact) else {
+    basis.closed.well_formed();
+    let Some(birth) = basis.closed.born(fact) else {
         // The fact is one of the saturation, and each has a birth.
         unreachable!()
     };

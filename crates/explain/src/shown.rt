@@ -1,7 +1,6 @@
 //! The lines of marked facts.
 ghost use Rattle.axioms.specs.View.{at_number};
 ghost use Rattle.cert_check.specs.Derivation.{IsDerivation};
-ghost use Rattle.engine.specs.Saturations.{IsSaturated};
 ghost use Rattle.explain.specs.Marks.{IsMarked, IsGoal, IsShown, IsWantedFact, ShowsMarked};
 ghost use Rattle.explain.specs.Needs.{EachIsNeeded};
 ghost use Rattle.explain.specs.LineOrder.{AreReady, IsShowing};
@@ -17,28 +16,27 @@ use crate::marks::{goal_mark, is_blank_block};
 use crate::paths::PropertyPaths;
 use crate::showing::show;
 use crate::sink::LineSink;
-use axioms::{Memory, Ontology};
-use engine::Saturation;
+use axioms::Memory;
+use engine::Closed;
 use facts::FactId;
 use normalise::property_forms_are_named;
 use number_sets::Row;
-use std::alloc::Global;
 
 // The paths from each property to those above it.
-fn paths_of(
-    alloc: Global,
-    ontology: &Ontology,
-    saturation: &Saturation,
-) -> Result<PropertyPaths, Memory>
-    requires { IsSaturated ontology.now saturation.now }
-    ensures { IfOk result (λ p. p ≡ saturation.now.state.problem.forms) }
+fn paths_of(closed: &Closed<'_>) -> Result<PropertyPaths, Memory>
+    ensures { IfOk result (λ p. p ≡ closed.now.saturation.state.problem.forms) }
 {
-    ontology.well_formed();
+    closed.well_formed();
+    let ontology = closed.ontology();
     ontology.bounded();
     property_forms_are_named();
-    let normal = saturation.normal();
+    let normal = closed.normal();
     normal.bounded();
-    PropertyPaths::new(alloc, ontology.properties().len(), normal.forms())
+    PropertyPaths::new(
+        closed.allocator(),
+        ontology.properties().len(),
+        normal.forms(),
+    )
 }
 
 // Shows the next fact, if it is marked.
@@ -49,13 +47,14 @@ fn show_next<L: LineSink>(
     derivation: &mut Derivation<L>,
     shown: &mut LinesByFact,
 ) -> Result<(), Memory>
-    requires ready { AreReady basis.now.ontology.now basis.now.saturation.now basis.now.paths.now marks.now }
+    requires ready { AreReady basis.now.closed.now.ontology basis.now.closed.now.saturation basis.now.paths.now marks.now }
     requires there { fact.0 < length marks.now }
     requires next { fact.0 ≡ length shown.old }
-    requires showing { IsShowing basis.now.ontology.now basis.now.saturation.now marks.now derivation.old shown.old }
+    requires showing { IsShowing basis.now.closed.now.ontology basis.now.closed.now.saturation marks.now derivation.old shown.old }
     ensures next { OnOk result (length shown.new ≡ length shown.old + 1) }
-    ensures showing { OnOk result (IsShowing basis.now.ontology.now basis.now.saturation.now marks.now derivation.new shown.new) }
+    ensures showing { OnOk result (IsShowing basis.now.closed.now.ontology basis.now.closed.now.saturation marks.now derivation.new shown.new) }
 {
+    basis.closed.well_formed();
     let FactId(number) = fact;
     if !marks.contains(number as usize) {
         shown.push_list(&[])?;
@@ -73,12 +72,12 @@ fn show_more<L: LineSink>(
     derivation: &mut Derivation<L>,
     shown: &mut LinesByFact,
 ) -> Result<(), Memory>
-    requires ready { AreReady basis.now.ontology.now basis.now.saturation.now basis.now.paths.now marks.now }
+    requires ready { AreReady basis.now.closed.now.ontology basis.now.closed.now.saturation basis.now.paths.now marks.now }
     requires few { length marks.now < 2 ^ 32 }
     requires more { length shown.old < length marks.now }
-    requires showing { IsShowing basis.now.ontology.now basis.now.saturation.now marks.now derivation.old shown.old }
+    requires showing { IsShowing basis.now.closed.now.ontology basis.now.closed.now.saturation marks.now derivation.old shown.old }
     ensures more { OnOk result (length shown.old < length shown.new) }
-    ensures showing { OnOk result (IsShowing basis.now.ontology.now basis.now.saturation.now marks.now derivation.new shown.new) }
+    ensures showing { OnOk result (IsShowing basis.now.closed.now.ontology basis.now.closed.now.saturation marks.now derivation.new shown.new) }
 {
     let number = shown.len();
     if number % BLOCK == 0 && is_blank_block(marks, number) {
@@ -95,12 +94,12 @@ fn show_each<L: LineSink>(
     marks: &Row,
     derivation: &mut Derivation<L>,
 ) -> Result<(), Memory>
-    requires ready { AreReady basis.now.ontology.now basis.now.saturation.now basis.now.paths.now marks.now }
+    requires ready { AreReady basis.now.closed.now.ontology basis.now.closed.now.saturation basis.now.paths.now marks.now }
     requires few { length marks.now < 2 ^ 32 }
     requires none { derivation.old ≡ [] }
-    ensures derivation { OnOk result (IsDerivation basis.now.ontology.now derivation.new) }
-    ensures shown { OnOk result (ShowsMarked basis.now.saturation.now marks.now derivation.new) }
-    ensures needed { OnOk result (EachIsNeeded basis.now.ontology.now basis.now.saturation.now.normal.asked derivation.new) }
+    ensures derivation { OnOk result (IsDerivation basis.now.closed.now.ontology derivation.new) }
+    ensures shown { OnOk result (ShowsMarked basis.now.closed.now.saturation marks.now derivation.new) }
+    ensures needed { OnOk result (EachIsNeeded basis.now.closed.now.ontology basis.now.closed.now.saturation.normal.asked derivation.new) }
 {
     let mut shown = LinesByFact::with_room(basis.alloc, marks.len())?;
     while shown.len() < marks.len() {
@@ -114,31 +113,25 @@ fn show_each<L: LineSink>(
 ///
 /// # Errors
 ///
-/// `Memory` where memory was refused, or 32 bits do not count the facts.
+/// `Memory` where memory was refused.
 pub(crate) fn add_lines<L: LineSink>(
-    alloc: Global,
-    ontology: &Ontology,
-    saturation: &Saturation,
+    closed: &Closed<'_>,
     mut marks: Row,
     derivation: &mut Derivation<L>,
 ) -> Result<(), Memory>
-    requires saturated { IsSaturated ontology.now saturation.now }
-    requires within { length marks ≤ length saturation.now.state.facts }
-    requires wanted { (n : ℕ) (f : Fact2) → slice_get saturation.now.state.facts n ≡ Some f → IsMarked marks n → IsWantedFact ontology.now saturation.now.normal.asked f }
+    requires within { length marks ≤ length closed.now.saturation.state.facts }
+    requires wanted { (n : ℕ) (f : Fact2) → slice_get closed.now.saturation.state.facts n ≡ Some f → IsMarked marks n → IsWantedFact closed.now.ontology closed.now.saturation.normal.asked f }
     requires none { derivation.old ≡ [] }
-    ensures derivation { OnOk result (IsDerivation ontology.now derivation.new) }
-    ensures shown { OnOk result (ShowsMarked saturation.now marks derivation.new) }
-    ensures needed { OnOk result (EachIsNeeded ontology.now saturation.now.normal.asked derivation.new) }
+    ensures derivation { OnOk result (IsDerivation closed.now.ontology derivation.new) }
+    ensures shown { OnOk result (ShowsMarked closed.now.saturation marks derivation.new) }
+    ensures needed { OnOk result (EachIsNeeded closed.now.ontology closed.now.saturation.normal.asked derivation.new) }
 {
-    if marks.len() > u32::MAX as usize {
-        return Err(Memory);
-    }
-    mark_older(saturation, &mut marks);
-    let paths = paths_of(alloc, ontology, saturation)?;
+    closed.well_formed();
+    mark_older(closed, &mut marks);
+    let paths = paths_of(closed)?;
     let basis = Basis {
-        alloc,
-        ontology,
-        saturation,
+        alloc: closed.allocator(),
+        closed,
         paths: &paths,
     };
     show_each(&basis, &marks, derivation)
@@ -149,21 +142,18 @@ pub(crate) fn add_lines<L: LineSink>(
 ///
 /// # Errors
 ///
-/// `Memory` where memory was refused, or 32 bits do not count the facts.
+/// `Memory` where memory was refused.
 pub(crate) fn add_goal<L: LineSink>(
-    alloc: Global,
-    ontology: &Ontology,
-    saturation: &Saturation,
+    closed: &Closed<'_>,
     goal: usize,
     derivation: &mut Derivation<L>,
 ) -> Result<(), Memory>
-    requires saturated { IsSaturated ontology.now saturation.now }
-    requires wanted { IsGoal (IsWantedFact ontology.now saturation.now.normal.asked) saturation.now.state.facts goal }
+    requires wanted { IsGoal (IsWantedFact closed.now.ontology closed.now.saturation.normal.asked) closed.now.saturation.state.facts goal }
     requires none { derivation.old ≡ [] }
-    ensures derivation { OnOk result (IsDerivation ontology.now derivation.new) }
-    ensures shown { OnOk result ((f : Fact2) → at_number saturation.now.state.facts goal ≡ Some f → IsShown (prefixes_of saturation.now.normal) derivation.new f) }
-    ensures needed { OnOk result (EachIsNeeded ontology.now saturation.now.normal.asked derivation.new) }
+    ensures derivation { OnOk result (IsDerivation closed.now.ontology derivation.new) }
+    ensures shown { OnOk result ((f : Fact2) → at_number closed.now.saturation.state.facts goal ≡ Some f → IsShown (prefixes_of closed.now.saturation.normal) derivation.new f) }
+    ensures needed { OnOk result (EachIsNeeded closed.now.ontology closed.now.saturation.normal.asked derivation.new) }
 {
-    let marks = goal_mark(alloc, goal)?;
-    add_lines(alloc, ontology, saturation, marks, derivation)
+    let marks = goal_mark(closed.allocator(), goal)?;
+    add_lines(closed, marks, derivation)
 }

@@ -1,13 +1,14 @@
 //! Where the lines of a derivation go.
 ghost use Rattle.axioms.specs.View.{at_number};
 ghost use Rattle.certificate.specs.Certificate as spec;
-ghost use Rattle.certificate.specs.LineText.{source_of};
+ghost use Rattle.certificate.specs.Certificate.{source_of};
 ghost use Rattle.certificate.specs.View.{conclusion_of, line_of, lines_of, subject_of};
 ghost use Rattle.explain.specs.Step.{line_by};
 ghost use Rattle.std.specs.Prelude.{◌≡◌, ◌++◌, ◌∷◌, [], IfOk, List, OnErr, OnOk, length, map, option_map};
 
 use axioms::{IndId, Memory};
-use certificate::{Conclusion, FormatType, Line, LineText, Rule, Subject};
+use certificate::{Conclusion, FormatType, Line, Rule, Subject};
+use certificate_text::LineText;
 use std::alloc::{AllocError, Global};
 use std::marker::Model;
 

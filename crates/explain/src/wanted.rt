@@ -5,7 +5,7 @@ ghost use Rattle.facts.specs.declared.contexts.Fact.{Fact as Fact2};
 ghost use Rattle.std.specs.Prelude.{◌↔◌, ◌≡◌, Contains, IfOk, IsTrue, Some, length, slice_get, ℕ};
 
 use axioms::{ExprId, Memory, Ontology};
-use engine::Saturation;
+use engine::Indexed;
 use facts::{Context, Fact, FactId, StoredFact};
 use normal_forms::Class2;
 use number_sets::Row;
@@ -101,7 +101,7 @@ pub(crate) fn wanted(
 }
 
 /// The number of the first fact that is a contradiction, counted from 1, if there is one.
-pub(crate) fn first_contradiction(ontology: &Ontology, facts: &[StoredFact]) -> Option<usize>
+pub fn first_contradiction(ontology: &Ontology, facts: &[StoredFact]) -> Option<usize>
     ensures { FindsGoal (IsContradictoryFact ontology.now) facts.now result }
 {
     for place in 0..facts.len() {
@@ -113,9 +113,9 @@ pub(crate) fn first_contradiction(ontology: &Ontology, facts: &[StoredFact]) -> 
 }
 
 /// The number of the fact, counted from 1, if it is there.
-pub(crate) fn number_of(saturation: &Saturation, wanted: Fact) -> Option<usize>
-    ensures { FindsGoal (λ f. f ≡ wanted) saturation.now.state.facts result }
+pub(crate) fn number_of(indexed: &Indexed<'_>, wanted: Fact) -> Option<usize>
+    ensures { FindsGoal (λ f. f ≡ wanted) indexed.now.saturation.state.facts result }
 {
-    let FactId(number) = saturation.find(wanted)?;
+    let FactId(number) = indexed.find(wanted)?;
     Some(number as usize + 1)
 }

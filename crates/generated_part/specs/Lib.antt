@@ -3,4 +3,3 @@ pub mod Theorems
 pub mod Elements
 pub mod Search
 pub mod Part
-pub mod Items

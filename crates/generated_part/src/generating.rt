@@ -1,21 +1,16 @@
 //! Generated parts.
-ghost use Rattle.certificate.specs.Writability.{IsListedOf};
-ghost use Rattle.certificate.specs.View.{listed_of};
 ghost use Rattle.generated_part.specs.Elements.{IsByElement};
 ghost use Rattle.generated_part.specs.GeneratedPart.{IsGenerated};
 ghost use Rattle.interpretation_spec.specs.NamedInterpretation.{interpretation_of};
 ghost use Rattle.interpretation_spec.specs.Interpretation.{Interpretation as Interpretation2, IsInterpretation};
 ghost use Rattle.interpretation_spec.specs.NumberedInterpretation.{IsMadeFor};
-ghost use Rattle.listed_model.specs.Interpretations.{listed_interpretation};
 ghost use Rattle.std.specs.Prelude.{◌<◌, IfOk};
 
 use crate::by_element::ByElement;
 use crate::chosen::chosen_by;
-use crate::listed_rows::listed_rows;
 use crate::part::part_of;
 use crate::search::reached;
 use axioms::{Memory, Ontology};
-use certificate::Listed;
 use interpretation_spec::Interpretation;
 use std::alloc::Global;
 
@@ -64,28 +59,5 @@ pub fn generated(
     ontology.well_formed();
     interpretation.well_formed();
     let rows = ByElement::of_interpretation(alloc, ontology, interpretation)?;
-    generated_of(alloc, ontology, &rows, from)
-}
-
-/// The part of the listed interpretation, which is one of the ontology, that is reached from the element and from the individuals,
-/// and the new number of the element, as of `generated`. It is made straight from the lists.
-///
-/// # Errors
-///
-/// `Memory` where memory was refused.
-pub fn listed_part(
-    alloc: Global,
-    listed: &Listed,
-    ontology: &Ontology,
-    from: usize,
-) -> Result<(Interpretation, usize), Memory>
-    requires listed { IsListedOf ontology.now (listed_of listed.now) }
-    requires there { from < listed.now.domain }
-    ensures made { IfOk result (λ part. IsMadeFor ontology.now.names part.0) }
-    ensures generated { IfOk result (λ part. IsGenerated ontology.now (listed_interpretation ontology.now (listed_of listed.now)) from
-        (interpretation_of ontology.now.names part.0) part.1) }
-{
-    ontology.well_formed();
-    let rows = listed_rows(alloc, ontology, listed)?;
     generated_of(alloc, ontology, &rows, from)
 }

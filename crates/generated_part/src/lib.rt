@@ -4,10 +4,9 @@
 mod by_element;
 mod chosen;
 mod generating;
-mod listed_rows;
 mod part;
 mod search;
 mod theory;
 
-pub use generating::{generated, listed_part};
+pub use generating::generated;
 pub use theory::generated_parts;

@@ -5,7 +5,7 @@ use Rattle.axioms.specs.Fronts.{front_of, lengths_of}
 use Rattle.axioms.specs.Ontology.{Ontology}
 use Rattle.axioms.specs.WellFormedness.{IsOntology}
 use Rattle.axioms.specs.declared.lengths.Lengths.{Lengths}
-use Rattle.engine.specs.Saturations.{Continues, IsSound, Saturated}
+use Rattle.engine.specs.Saturations.{Continues, IsSound, Saturating}
 use Rattle.fs_parser.specs.Name.{Prefixes}
 use Rattle.profile.proofs.Extending.{extends_of}
 use Rattle.profile.proofs.Trees.{keeps_append}
@@ -14,7 +14,7 @@ use Rattle.program.specs.declared.version.Version.{Version}
 
 module _ (version : Version) (prefixes : Prefixes) (text : List ℕ) (old new : Ontology) (is : IsAddedText version prefixes text old new) (lengths : Lengths) (long : lengths ≡ lengths_of old) (whole : IsOntology old) where
   -- names, expressions and axioms keep their numbers
-  pub grown_from : (s : Saturated) → IsSound old s → Continues s lengths new
+  pub grown_from : (s : Saturating) → IsSound old s → Continues s lengths new
   grown_from s sound =
       let kept = is.added.kept in
       let more = is.added.adds.grows in

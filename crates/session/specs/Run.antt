@@ -1,25 +1,15 @@
 -- What is said of a document that is read and run to its end.
-use Rattle.std.specs.Prelude.{◌≤◌, ℕ, List, Option, Result, Ok, Err, length}
+use Rattle.std.specs.Prelude.{ℕ, List, Option, Result, Ok, Err}
 use Rattle.axioms.specs.Ontology.{Ontology}
-use Rattle.engine.specs.Saturations.{IsSaturated, IsUnasked}
 use Rattle.profile.specs.Faults.{RefusesKnown}
 use Rattle.program.specs.declared.limits.Limits.{Limits}
 use Rattle.session.specs.TextAnswers.{IsBeyondLimit, IsReadAs}
 use Rattle.session.specs.Devices.{IsReadUntil}
 use Rattle.source_lines.specs.Sources.{SourceState, IsReadToItsEnd}
-use Rattle.session.specs.declared.opening.Finished.{Finished}
 use Rattle.session.specs.declared.question_fault.QuestionFault.{QuestionFault}
 use Rattle.session.specs.declared.question_fault.QuestionFault.TheVariants as asking
 use Rattle.session.specs.declared.run_fault.RunFault.{RunFault}
 use Rattle.session.specs.declared.run_fault.RunFault.TheVariants.{Document, Limit, Memory}
-
--- the document reads as the ontology, in the version and within the limit of bytes; the facts are those of its closure, with nothing
--- asked about, within that of facts
-pub record IsRun (limits : Limits) (document : Option (List ℕ)) (run : Finished) : Type 0 where
-  pub read : IsReadAs limits.version limits.max_bytes document run.ontology
-  pub saturated : IsSaturated run.ontology run.saturation
-  pub unasked : IsUnasked run.saturation
-  pub within : length run.saturation.state.facts ≤ limits.max_facts
 
 -- what a fault says of the document: it is refused, or it is read and this came behind that
 abbrev pub IsRunFault : Limits → (document : Option (List ℕ)) → RunFault → Type 0

@@ -1,7 +1,7 @@
 -- What a session has.
-use Rattle.std.specs.Prelude.{◌≡◌, ◌≤◌, ℕ, true}
+use Rattle.std.specs.Prelude.{◌≡◌, ◌≤◌, ℕ}
 use Rattle.axioms.specs.Ontology.{Ontology}
-use Rattle.engine.specs.Saturations.{Saturated, IsFinished, IsSaturated, IsSound, IsUnasked}
+use Rattle.engine.specs.Saturations.{Saturating, IsFinished, IsSaturated, IsSound, IsUnasked, as_ended}
 use Rattle.fs_parser.specs.Name.{Prefixes}
 use Rattle.profile.specs.Documents.{IsTaken}
 use Rattle.profile.specs.declared.opened.Opened as reading
@@ -13,24 +13,23 @@ use Rattle.program.specs.declared.version.Version.{Version}
 pub record Opened : Type 0 where
   pub ontology : Ontology
   pub prefixes : Prefixes
-  pub saturation : Saturated
+  pub saturation : Saturating
   pub bytes : ℕ
   pub most_bytes : ℕ
   pub version : Version
 
--- what holds at any time: the facts are facts of the ontology's closure, each once, with nothing asked about, some of them are served,
--- each once, and more may be added; the ontology is well formed and that of some statements; and there are no more bytes than there may be
+-- what holds at any time: the facts are facts of the ontology's closure, each once, with nothing asked about, and some of them are served,
+-- each once; the ontology is well formed and that of some statements; and there are no more bytes than there may be
 pub record IsOpen (s : Opened) : Type 0 where
   pub sound : IsSound s.ontology s.saturation
-  pub unasked : IsUnasked s.saturation
-  pub can_grow : s.saturation.can_grow ≡ true
+  pub unasked : IsUnasked (as_ended s.saturation)
   pub taken : IsTaken s.ontology
   pub within : s.bytes ≤ s.most_bytes
 
 -- what can be cited of any session: where nothing is pending, the facts are the closure, too
 pub record IsSession (s : Opened) : Type 0 where
   pub whole : IsOpen s
-  pub saturated : IsFinished s.saturation → IsSaturated s.ontology s.saturation
+  pub saturated : IsFinished s.saturation → IsSaturated s.ontology (as_ended s.saturation)
 
 -- what was read
 abbrev pub as_read : Opened → reading.Opened

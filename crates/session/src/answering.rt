@@ -1,5 +1,5 @@
 //! The answers to questions about a document.
-ghost use Rattle.engine.specs.Saturations.{IsSaturated, IsUnasked};
+ghost use Rattle.engine.specs.Saturations.{IsFinished};
 ghost use Rattle.session.specs.TextAnswers.{AnswersInstances, AnswersExplanation, IsFaultOf, IsRead, ListsInstances, ShowsExplanation};
 ghost use Rattle.session.specs.Texts.{IsUnanswered};
 ghost use Rattle.session.specs.Answers.{class_name, subject_name};
@@ -8,33 +8,35 @@ ghost use Rattle.profile.specs.declared.fault.DocumentFault.TheVariants as readi
 ghost use Rattle.session.specs.declared.question_fault.QuestionFault.TheVariants as asking;
 ghost use Rattle.std.specs.Prelude.{[], ◌∷◌, ◌+◌, ◌<◌, IfErr, IfOk, IsErrOf};
 
-use crate::explaining::first_unknown;
+use crate::fault::AskFault;
 use crate::form::Form;
 use crate::listed::lines_of_names;
-use crate::opening::{Finished, run_document};
+use crate::opening::run_session;
 use crate::question_fault::QuestionFault;
 use crate::run_fault::question_fault;
+use crate::session::Session;
 use crate::shown::shown_explanation;
-use answers::{Asked, explained, instances};
+use answers::Asked;
 use device::Source;
 use program::Limits;
 use std::alloc::Global;
 use std::hash::RandomState;
 
-/// The individuals of the class, a line each.
+/// The individuals of the class, a line each, by a session that is run to its end.
 fn members<'n>(
     alloc: Global,
-    finished: &Finished,
+    session: &Session,
     class: &'n str,
 ) -> Result<Vec<u8>, QuestionFault<'n>>
-    requires { IsSaturated finished.now.ontology finished.now.saturation }
-    ensures answered { IfOk result (λ v. ListsInstances finished.now.ontology class.now v.items) }
-    ensures fault { IfErr result (IsUnanswered finished.now.ontology (class_name class.now ∷ [])) }
+    requires { IsFinished session.now.saturation }
+    ensures answered { IfOk result (λ v. ListsInstances session.now.ontology class.now v.items) }
+    ensures fault { IfErr result (IsUnanswered session.now.ontology (class_name class.now ∷ [])) }
 {
-    let names = match instances(alloc, &finished.ontology, &finished.saturation, class) {
-        Ok(Some(names)) => names,
-        Ok(None) => return Err(QuestionFault::UnknownName(class)),
-        Err(_) => return Err(QuestionFault::Memory),
+    let names = match session.instances(class) {
+        Ok(names) => names,
+        Err(AskFault::Unfinished) => unreachable!(),
+        Err(AskFault::UnknownName(name)) => return Err(QuestionFault::UnknownName(name)),
+        Err(AskFault::Memory) => return Err(QuestionFault::Memory),
     };
     match lines_of_names(alloc, &names) {
         Ok(text) => Ok(text),
@@ -42,26 +44,25 @@ fn members<'n>(
     }
 }
 
-/// Why the subject is in the class, or why not.
+/// Why the subject is in the class, or why not, by a session that is run to its end.
 fn why<'n>(
     alloc: Global,
-    finished: &Finished,
+    session: &Session,
     asked: Asked<'n>,
     class: &'n str,
     form: Form,
 ) -> Result<Vec<u8>, QuestionFault<'n>>
-    requires saturated { IsSaturated finished.now.ontology finished.now.saturation }
-    requires unasked { IsUnasked finished.now.saturation }
-    ensures answered { IfOk result (λ v. ShowsExplanation finished.now.ontology asked.entry class.now form v.items) }
-    ensures fault { IfErr result (IsUnanswered finished.now.ontology (subject_name asked.entry ∷ class_name class.now ∷ [])) }
+    requires { IsFinished session.now.saturation }
+    ensures answered { IfOk result (λ v. ShowsExplanation session.now.ontology asked.entry class.now form v.items) }
+    ensures fault { IfErr result (IsUnanswered session.now.ontology (subject_name asked.entry ∷ class_name class.now ∷ [])) }
 {
-    let ontology = &finished.ontology;
-    let explanation = match explained(alloc, ontology, &finished.saturation, asked, class) {
-        Ok(Some(explanation)) => explanation,
-        Ok(None) => return Err(QuestionFault::UnknownName(first_unknown(ontology, asked, class))),
-        Err(_) => return Err(QuestionFault::Memory),
+    let explanation = match session.explain(asked, class) {
+        Ok(explanation) => explanation,
+        Err(AskFault::Unfinished) => unreachable!(),
+        Err(AskFault::UnknownName(name)) => return Err(QuestionFault::UnknownName(name)),
+        Err(AskFault::Memory) => return Err(QuestionFault::Memory),
     };
-    match shown_explanation(alloc, ontology, &explanation, form) {
+    match shown_explanation(alloc, session.ontology(), &explanation, form) {
         Ok(text) => Ok(text),
         Err(_) => Err(QuestionFault::Memory),
     }
@@ -88,10 +89,10 @@ pub fn instances_text<'n, S: Source>(
     ensures beyond { IsErrOf result (asking.Document reading.TooLarge) → S.most source.new + limits.now.max_bytes < S.most source.old }
     ensures read { IsRead result (source_state S.Source source.old) (source_state S.Source source.new) }
 {
-    match run_document(alloc, source, limits, state) {
-        Ok(finished) => {
-            let answered = members(alloc, &finished, class);
-            drop(finished);
+    match run_session(alloc, source, limits, state) {
+        Ok(session) => {
+            let answered = members(alloc, &session, class);
+            drop(session);
             answered
         }
         Err(fault) => Err(question_fault(fault)),
@@ -123,10 +124,10 @@ pub fn explanation_text<'n, S: Source>(
     ensures beyond { IsErrOf result (asking.Document reading.TooLarge) → S.most source.new + limits.now.max_bytes < S.most source.old }
     ensures read { IsRead result (source_state S.Source source.old) (source_state S.Source source.new) }
 {
-    match run_document(alloc, source, limits, state) {
-        Ok(finished) => {
-            let answered = why(alloc, &finished, asked, class, form);
-            drop(finished);
+    match run_session(alloc, source, limits, state) {
+        Ok(session) => {
+            let answered = why(alloc, &session, asked, class, form);
+            drop(session);
             answered
         }
         Err(fault) => Err(question_fault(fault)),

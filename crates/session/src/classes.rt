@@ -18,10 +18,10 @@ impl Session {
         ensures asked { OnOk result (HasClass self.now class.now) }
         ensures refused { IfErr result (IsClassRefusal self.now class.now) }
     {
-        if !self.saturation.is_finished() {
+        let Some(indexed) = self.indexed() else {
             return Err(AskFault::Unfinished);
-        }
-        match answers::superclasses(self.alloc, &self.ontology, &self.saturation, class) {
+        };
+        match answers::superclasses(&indexed, class) {
             Ok(Some(names)) => Ok(names),
             Ok(None) => Err(AskFault::UnknownName(class)),
             Err(_) => Err(AskFault::Memory),
@@ -40,10 +40,10 @@ impl Session {
         ensures asked { OnOk result (HasClass self.now class.now) }
         ensures refused { IfErr result (IsClassRefusal self.now class.now) }
     {
-        if !self.saturation.is_finished() {
+        let Some(indexed) = self.indexed() else {
             return Err(AskFault::Unfinished);
-        }
-        match answers::subclasses(self.alloc, &self.ontology, &self.saturation, class) {
+        };
+        match answers::subclasses(&indexed, class) {
             Ok(Some(names)) => Ok(names),
             Ok(None) => Err(AskFault::UnknownName(class)),
             Err(_) => Err(AskFault::Memory),

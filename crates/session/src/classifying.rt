@@ -1,5 +1,7 @@
 //! The texts of a document.
+ghost use Rattle.engine.specs.Saturations.{IsFinished};
 ghost use Rattle.profile.specs.declared.fault.DocumentFault.TheVariants as reading;
+ghost use Rattle.session.specs.Answers.{IsMade};
 ghost use Rattle.session.specs.Classifications.{IsClassified};
 ghost use Rattle.session.specs.Devices.{seen};
 ghost use Rattle.session.specs.Progress.{IsProgress};
@@ -12,6 +14,8 @@ ghost use Rattle.std.specs.Prelude.{◌+◌, ◌<◌, IfErr, IfOk, IsErrOf};
 use crate::opening::run_telling;
 use crate::progress::{Stage, tell_stage};
 use crate::run_fault::RunFault;
+use crate::session::Session;
+use axioms::Memory;
 use certificate::Format;
 use classification::{Classification, classified};
 use device::{Sink, Source};
@@ -42,6 +46,24 @@ fn tell_made<W: Sink>(made: &Classification, told: bool, sink: &mut W)
     tell_stage(sink, told, &Stage::Made { lines, bytes });
 }
 
+/// The three texts of a session that is run to its end, with a certificate in the format, and the counts. The prefixes and the tables
+/// that find facts are let go before they are made.
+fn made_of(session: Session, format: Format) -> Result<Classification, Memory>
+    requires { IsFinished session.saturation }
+    ensures { IfOk result (λ c. IsMade session format c.summary (texts_of c)) }
+{
+    session.well_formed();
+    let Session {
+        ontology,
+        prefixes,
+        saturation,
+        ..
+    } = session;
+    drop(prefixes);
+    let finished = saturation.finish();
+    classified(&finished.closed(&ontology), format)
+}
+
 /// The taxonomy, the instances and the certificate, which is in the format, of the document that the source gives, in memory, and its
 /// counts. Nothing else of it is kept. Where progress is told, the sink is told how far it is.
 ///
@@ -67,13 +89,11 @@ pub fn classification_of<S: Source, W: Sink>(
     // Where progress is told, the sink takes lines of stages; where it is not, nothing.
     ensures progress { IsProgress told (seen W.Sink sink.old) (seen W.Sink sink.new) }
 {
-    let finished = match run_telling(alloc, source, limits, told, sink, state) {
-        Ok(finished) => finished,
+    let session = match run_telling(alloc, source, limits, told, sink, state) {
+        Ok(session) => session,
         Err(fault) => return Err(fault),
     };
-    let made = classified(alloc, &finished.ontology, &finished.saturation, format);
-    drop(finished);
-    match made {
+    match made_of(session, format) {
         Ok(made) => {
             tell_made(&made, told, sink);
             Ok(made)

@@ -28,7 +28,7 @@ fn is_known(ontology: &Ontology, asked: Asked<'_>) -> bool
 }
 
 /// The first of the two names that the ontology lacks.
-pub(crate) fn first_unknown<'n>(ontology: &Ontology, asked: Asked<'n>, class: &'n str) -> &'n str
+fn first_unknown<'n>(ontology: &Ontology, asked: Asked<'n>, class: &'n str) -> &'n str
     requires { IsKnown ontology.now asked → Contains ontology.now.names.classes class.now → ⊥ }
     ensures { IsFirstUnknown ontology.now (subject_name asked.entry ∷ class_name class.now ∷ []) result.now }
 {
@@ -51,10 +51,10 @@ impl Session {
         ensures asked { OnOk result (HasNames self.now asked.entry class.now) }
         ensures refused { IfErr result (IsExplainRefusal self.now asked.entry class.now) }
     {
-        if !self.saturation.is_finished() {
+        let Some(indexed) = self.indexed() else {
             return Err(AskFault::Unfinished);
-        }
-        match explained(self.alloc, &self.ontology, &self.saturation, asked, class) {
+        };
+        match explained(&indexed, asked, class) {
             Ok(Some(explanation)) => Ok(explanation),
             Ok(None) => {
                 let name = first_unknown(&self.ontology, asked, class);

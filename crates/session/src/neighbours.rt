@@ -19,10 +19,10 @@ impl Session {
         ensures asked { OnOk result (HasClass self.now class.now) }
         ensures refused { IfErr result (IsClassRefusal self.now class.now) }
     {
-        if !self.saturation.is_finished() {
+        let Some(indexed) = self.indexed() else {
             return Err(AskFault::Unfinished);
-        }
-        match answers::equivalents(self.alloc, &self.ontology, &self.saturation, class) {
+        };
+        match answers::equivalents(&indexed, class) {
             Ok(Some(names)) => Ok(names),
             Ok(None) => Err(AskFault::UnknownName(class)),
             Err(_) => Err(AskFault::Memory),
@@ -43,10 +43,10 @@ impl Session {
         ensures asked { OnOk result (HasClass self.now class.now) }
         ensures refused { IfErr result (IsClassRefusal self.now class.now) }
     {
-        if !self.saturation.is_finished() {
+        let Some(indexed) = self.indexed() else {
             return Err(AskFault::Unfinished);
-        }
-        match answers::parents(self.alloc, &self.ontology, &self.saturation, class) {
+        };
+        match answers::parents(&indexed, class) {
             Ok(Some(groups)) => Ok(groups),
             Ok(None) => Err(AskFault::UnknownName(class)),
             Err(_) => Err(AskFault::Memory),
@@ -65,10 +65,10 @@ impl Session {
         ensures asked { OnOk result (HasClass self.now class.now) }
         ensures refused { IfErr result (IsClassRefusal self.now class.now) }
     {
-        if !self.saturation.is_finished() {
+        let Some(indexed) = self.indexed() else {
             return Err(AskFault::Unfinished);
-        }
-        match answers::children(self.alloc, &self.ontology, &self.saturation, class) {
+        };
+        match answers::children(&indexed, class) {
             Ok(Some(groups)) => Ok(groups),
             Ok(None) => Err(AskFault::UnknownName(class)),
             Err(_) => Err(AskFault::Memory),

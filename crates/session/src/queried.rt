@@ -2,24 +2,22 @@
 ghost use Rattle.engine.specs.Saturations.{IsFinished};
 ghost use Rattle.profile.specs.declared.fault.DocumentFault.TheVariants as reading;
 ghost use Rattle.session.specs.Queries.{names_in};
-ghost use Rattle.session.specs.Run.{IsRunFault, IsRunRead};
 ghost use Rattle.session.specs.Sessions.{as_read};
-ghost use Rattle.session.specs.TextAnswers.{AnswersQuery, IsQueryFaultOf, IsRead, IsRunAs, ListsAnswers, query_lines};
+ghost use Rattle.session.specs.TextAnswers.{AnswersQuery, IsQueryFaultOf, IsRead, ListsAnswers, query_lines};
 ghost use Rattle.session.specs.Texts.{IsUnansweredQuery};
 ghost use Rattle.session.specs.declared.question_fault.QuestionFault.TheVariants as asking;
-ghost use Rattle.session.specs.declared.run_fault.RunFault.TheVariants as run_faults;
 ghost use Rattle.source_lines.specs.Sources.{source_state};
 ghost use Rattle.std.specs.Prelude.{◌≡◌, ◌+◌, ◌<◌, IfErr, IfOk, IsErrOf};
 
 use crate::listed::push_lines;
+use crate::opening::run_session;
 use crate::query_fault::QueryFault;
 use crate::querying::Answers;
 use crate::question_fault::QuestionFault;
-use crate::run_fault::{RunFault, question_fault};
+use crate::run_fault::question_fault;
 use crate::session::Session;
 use axioms::Memory;
 use device::Source;
-use engine::Stop;
 use profile::Limits;
 use std::alloc::Global;
 use std::hash::RandomState;
@@ -60,40 +58,6 @@ fn answered(
     match lines_of_answers(alloc, &answers) {
         Ok(lines) => Ok(lines),
         Err(_) => Err(QuestionFault::Memory),
-    }
-}
-
-/// A session over the document that the source gives, run to its end within the limits.
-fn run_session<S: Source>(
-    alloc: Global,
-    source: &mut S,
-    limits: &Limits,
-    state: RandomState,
-) -> Result<Session, RunFault>
-    ensures run { IfOk result (λ s. IsRunAs limits.now (S.left source.old) (as_read s)) }
-    ensures finished { IfOk result (λ s. IsFinished s.saturation) }
-    ensures limit { IfOk result (λ s. s.most_bytes ≡ limits.now.max_bytes) }
-    ensures fault { IfErr result (IsRunFault limits.now (S.left source.old)) }
-    // Of a source that does not tell its bytes, too: it gave more than the limit.
-    ensures beyond { IsErrOf result (run_faults.Document reading.TooLarge) → S.most source.new + limits.now.max_bytes < S.most source.old }
-    ensures read { IsRunRead result (source_state S.Source source.old) (source_state S.Source source.new) }
-{
-    let mut session = match Session::open(alloc, source, limits, state) {
-        Ok(session) => session,
-        Err(fault) => return Err(RunFault::Document(fault)),
-    };
-    let resumed = session.resume(limits.max_facts);
-    session.well_formed();
-    match resumed {
-        Ok(()) => Ok(session),
-        Err(Stop::Limit) => {
-            drop(session);
-            Err(RunFault::Limit)
-        }
-        Err(Stop::Memory) => {
-            drop(session);
-            Err(RunFault::Memory)
-        }
     }
 }
 

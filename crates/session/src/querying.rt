@@ -1,6 +1,6 @@
 //! Class expressions that are asked about.
 ghost use Rattle.axioms.specs.Ontology.{expression};
-ghost use Rattle.engine.specs.Saturations.{HasMoreFactsThan, IsFinished, IsSaturated, IsSound, IsUnasked};
+ghost use Rattle.engine.specs.Saturations.{HasMoreFactsThan, IsFinished, IsSaturated, IsSound, IsUnasked, as_ended};
 ghost use Rattle.inference.specs.declared.known_facts.Stop.TheVariants as stops;
 ghost use Rattle.normalise.specs.Growth.{Grows};
 ghost use Rattle.normalise.specs.Roots.{KeepsNames};
@@ -9,15 +9,14 @@ ghost use Rattle.session.specs.Additions.{IsWithin};
 ghost use Rattle.session.specs.FactCounts.{HasNoMoreFactsThan};
 ghost use Rattle.session.specs.Queries.{AreAnswersFor, IsQueryAnswer, IsQueryRefusal, RefusesText, names_in};
 ghost use Rattle.session.specs.Sessions.{as_read};
-ghost use Rattle.std.specs.Prelude.{◌≡◌, ◌<◌, ◌≤◌, ◌∷◌, [], true, ℕ, List, Err, IfErr, IfOk, OnOk, length};
+ghost use Rattle.std.specs.Prelude.{◌≡◌, ◌<◌, ◌≤◌, ◌∷◌, [], ℕ, List, Err, IfErr, IfOk, OnOk, length};
 
 use crate::query_fault::QueryFault;
 use crate::session::Session;
 use answers::{Question, answers};
 use axioms::{ExprId, Memory, Ontology};
-use engine::{Saturation, Stop};
+use engine::{Indexed, Saturation, Stop};
 use profile::{DocumentFault, read_expression};
-use std::alloc::Global;
 
 /// What a query of a class expression gives: names, each list in byte order.
 #[derive(Debug, Drop)]
@@ -42,10 +41,11 @@ fn saturated_with(
     requires grows { Grows old.now new.now (length old.now.axioms) }
     requires names { KeepsNames old.now new.now }
     requires there { expr.0 < length new.now.nodes }
-    requires can_grow { saturation.now.can_grow ≡ true }
     requires finished { IsFinished saturation.now }
-    requires unasked { IsUnasked saturation.now }
-    ensures saturated { IfOk result (IsSaturated new.now) }
+    requires unasked { IsUnasked (as_ended saturation.now) }
+    ensures sound { IfOk result (IsSound new.now) }
+    ensures finished { IfOk result (λ s. IsFinished s) }
+    ensures saturated { IfOk result (λ s. IsSaturated new.now (as_ended s)) }
     ensures asked { IfOk result (λ s. s.normal.asked ≡ expr.0 ∷ []) }
     ensures within { IfOk result (λ s. length s.state.facts ≤ max_facts) }
     ensures limit { result ≡ Err stops.Limit → HasMoreFactsThan new.now (expr.0 ∷ []) max_facts }
@@ -62,24 +62,21 @@ fn saturated_with(
 
 /// The names that the expression of the grown ontology has, which are names of the other one, too.
 fn answers_for<'o>(
-    alloc: Global,
     ontology: &'o Ontology,
-    grown: &Ontology,
-    saturation: &Saturation,
+    grown: &Indexed<'_>,
     expr: ExprId,
 ) -> Result<Answers<'o>, Memory>
-    requires saturated { IsSaturated grown.now saturation.now }
-    requires asked { saturation.now.normal.asked ≡ expr.0 ∷ [] }
-    requires there { expr.0 < length grown.now.nodes }
-    requires names { grown.now.names ≡ ontology.now.names }
-    ensures { IfOk result (λ a. AreAnswersFor grown.now (expression grown.now expr.0) (names_in a)) }
+    requires asked { grown.now.saturation.normal.asked ≡ expr.0 ∷ [] }
+    requires there { expr.0 < length grown.now.ontology.nodes }
+    requires names { grown.now.ontology.names ≡ ontology.now.names }
+    ensures { IfOk result (λ a. AreAnswersFor grown.now.ontology (expression grown.now.ontology expr.0) (names_in a)) }
 {
     let (classes, individuals) = (ontology.classes(), ontology.individuals());
     let (above, below) = (Question::Above(expr), Question::Below(expr));
     let members = Question::Members(expr);
-    let superclasses = answers(alloc, classes, grown, saturation, above)?;
-    let subclasses = answers(alloc, classes, grown, saturation, below)?;
-    let instances = answers(alloc, individuals, grown, saturation, members)?;
+    let superclasses = answers(classes, grown, above)?;
+    let subclasses = answers(classes, grown, below)?;
+    let instances = answers(individuals, grown, members)?;
     Ok(Answers {
         superclasses,
         subclasses,
@@ -118,7 +115,10 @@ impl Session {
         let ontology = &self.ontology;
         grown.well_formed();
         let saturation = saturated_with(&self.saturation, ontology, grown, expr, max_facts)?;
-        Ok(answers_for(self.alloc, ontology, grown, &saturation, expr)?)
+        let Some(indexed) = saturation.indexed(grown) else {
+            unreachable!();
+        };
+        Ok(answers_for(ontology, &indexed, expr)?)
     }
 
     /// The named classes above and below the class expression that the text is, whose names are expanded with the prefixes of the

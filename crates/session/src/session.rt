@@ -2,14 +2,14 @@
 ghost use Rattle.device.specs.Device.{HasFailed, LosesFront};
 ghost use Rattle.profile.specs.Documents.{IsTaken};
 ghost use Rattle.profile.specs.Faults.{IsReadWhole, OpensKnown, ReadsKnown, RefusesKnown};
-ghost use Rattle.engine.specs.Saturations.{HasResumed, IsFinished, IsSaturated, IsSound, Saturates};
+ghost use Rattle.engine.specs.Saturations.{HasResumed, IsFinished, IsSaturated, IsSound, IsUnasked, Saturates, as_ended};
 ghost use Rattle.session.specs.Sessions.{IsSession, KeepsText, as_read};
 ghost use Rattle.std.specs.Io.KnownBytes.{IsAtEnd};
-ghost use Rattle.std.specs.Prelude.{◌≡◌, ◌+◌, ◌<◌, ◌≤◌, [], IfErr, IfOk, IsErrOf, OnOk, length};
+ghost use Rattle.std.specs.Prelude.{◌≡◌, ◌↔◌, ◌+◌, ◌<◌, ◌≤◌, [], IfErr, IfOk, IfSome, IsErrOf, IsSome, OnOk, length};
 
 use axioms::Ontology;
 use device::Source;
-use engine::{Saturation, Stop};
+use engine::{Indexed, Saturation, Stop};
 use fs_parser::Prefixes;
 use profile::{DocumentFault, Limits, Opened, Version, read_opened};
 use std::alloc::Global;
@@ -143,9 +143,18 @@ impl Session {
     pub fn well_formed(&self)
         ensures session { IsSession self.now }
         ensures sound { IsSound self.now.ontology self.now.saturation }
-        ensures saturated { IsFinished self.now.saturation → IsSaturated self.now.ontology self.now.saturation }
+        ensures saturated { IsFinished self.now.saturation → IsSaturated self.now.ontology (as_ended self.now.saturation) }
     {
         self.saturation.is_finished();
+    }
+
+    /// All that the ontology leads to, with the tables that find facts; none where facts are pending.
+    pub(crate) fn indexed(&self) -> Option<Indexed<'_>>
+        ensures some { IfSome result (λ i. i ≡ record { ontology = self.now.ontology; saturation = as_ended self.now.saturation }) }
+        ensures unasked { IfSome result (λ i. IsUnasked i.saturation) }
+        ensures finished { IsSome result ↔ IsFinished self.now.saturation }
+    {
+        self.saturation.indexed(&self.ontology)
     }
 
     /// How many facts there are. After a `resume` that ended with `Ok` they are those of the closure.

@@ -1,14 +1,15 @@
 //! Runs in slices of facts.
-ghost use Rattle.engine.specs.Saturations.{IsFinished, IsSound, Saturates};
+ghost use Rattle.engine.specs.Saturations.{IsFinished, Saturates};
 ghost use Rattle.inference.specs.declared.known_facts.Stop.TheVariants as stops;
-ghost use Rattle.axioms.specs.Ontology.{Ontology as Ontology2};
 ghost use Rattle.session.specs.Devices.{seen};
 ghost use Rattle.session.specs.Progress.{IsProgress};
+ghost use Rattle.session.specs.Sessions.{KeepsText};
 ghost use Rattle.std.specs.Prelude.{◌≡◌, ◌≤◌, ◌↔◌, Err, IsTrue, OnOk, length};
 
 use crate::progress::{Stage, tell_stage};
+use crate::session::Session;
 use device::Sink;
-use engine::{Saturation, Stop};
+use engine::Stop;
 
 /// How many facts more may be drawn before it is told again how many there are.
 pub const SLICE: u32 = 250_000;
@@ -27,11 +28,11 @@ fn first_end(told: bool, facts: usize, max_facts: u32) -> u32
 }
 
 /// Tells how many facts there are, and how many are pending.
-fn tell_drawn<W: Sink>(saturation: &Saturation, told: bool, sink: &mut W)
+fn tell_drawn<W: Sink>(session: &Session, told: bool, sink: &mut W)
     ensures { IsProgress told (seen W.Sink sink.old) (seen W.Sink sink.new) }
 {
-    let facts = saturation.facts().len();
-    let pending = facts.saturating_sub(saturation.served());
+    let facts = session.facts();
+    let pending = facts.saturating_sub(session.served());
     tell_stage(sink, told, &Stage::Drawn { facts, pending });
 }
 
@@ -45,28 +46,29 @@ fn is_at_limit(ended: &Result<(), Stop>) -> bool
     }
 }
 
-/// Serves all facts that are pending, and those that come of them, as long as there are at most `max_facts`. Where progress is told,
-/// that is done in slices of facts, behind each of which it is told how far it is.
+/// Finds out what follows, as long as that takes at most `max_facts` facts. Where progress is told, that is done in slices of facts,
+/// behind each of which it is told how far it is.
 ///
 /// # Errors
 ///
-/// Those of `Saturation::resume`. That a slice ends is no limit.
+/// Those of `Session::resume`. That a slice ends is no limit.
 pub(crate) fn resume_slices<W: Sink>(
-    saturation: &mut Saturation,
+    session: &mut Session,
     max_facts: u32,
     told: bool,
     sink: &mut W,
 ) -> Result<(), Stop>
-    ensures normal { saturation.new.normal ≡ saturation.old.normal }
-    ensures finished { OnOk result (IsFinished saturation.new) }
-    ensures within { OnOk result (length saturation.new.state.facts ≤ max_facts) }
-    ensures saturates { (o : Ontology2) → IsSound o saturation.old → Saturates o max_facts saturation.new result }
+    ensures ontology { session.new.ontology ≡ session.old.ontology }
+    ensures others { KeepsText session.old session.new }
+    ensures finished { OnOk result (IsFinished session.new.saturation) }
+    ensures within { OnOk result (length session.new.saturation.state.facts ≤ max_facts) }
+    ensures saturates { Saturates session.new.ontology max_facts session.new.saturation result }
     ensures progress { IsProgress told (seen W.Sink sink.old) (seen W.Sink sink.new) }
 {
-    let mut end = first_end(told, saturation.facts().len(), max_facts);
+    let mut end = first_end(told, session.facts(), max_facts);
     loop {
-        let ended = saturation.resume(end);
-        tell_drawn(saturation, told, sink);
+        let ended = session.resume(end);
+        tell_drawn(session, told, sink);
         if end == max_facts || !is_at_limit(&ended) {
             return ended;
         }

@@ -16,10 +16,10 @@ impl Session {
         ensures made { IfOk result (λ c. IsMade self.now format c.summary (texts_of c)) }
         ensures unmade { IfErr result (IsUnmade self.now) }
     {
-        if !self.saturation.is_finished() {
+        let Some(indexed) = self.indexed() else {
             return Err(TextFault::Unfinished);
-        }
-        match classified(self.alloc, &self.ontology, &self.saturation, format) {
+        };
+        match classified(indexed.closed(), format) {
             Ok(made) => Ok(made),
             Err(_) => Err(TextFault::Memory),
         }

@@ -8,7 +8,8 @@ ghost use Rattle.std.specs.Prelude.{List, ℕ};
 use answers::{Asked, Explanation};
 use axioms::{ClassId, IndId, Memory, Ontology};
 use cert_check::{Reason, Verdict, check};
-use certificate::{Certificate, Format, Line, certificate_bytes};
+use certificate::{Certificate, Format, Line};
+use certificate_text::certificate_bytes;
 use interpretation_spec::Interpretation;
 use std::alloc::Global;
 

@@ -1,7 +1,8 @@
 //! How the faults show themselves whose texts no contract says, and that a program which passes one on tells it so.
 
 use axioms::BuildFault;
-use certificate::{CertFault, CertWriteFault, MakeFault};
+use certificate::{CertFault, MakeFault};
+use certificate_text::CertWriteFault;
 use cli::{
     AskFault, CheckFault, ClassifyFault, ConversionFault, ConvertFault, DocumentFault, LineFault,
     QueryFault, QuestionFault, Stop, TextFault,

@@ -16,14 +16,14 @@ use Rattle.answers.proofs.derived.derivation_by_fact.Goals as goal
 
 pub left_for-requires : goal.left_for-requires
 left_for-requires c =
-    let o = c.args.ontology.now in
+    let o = c.args.indexed.now.ontology in
     let derivation = subst (λ (m : Option (Vec code_line.Line)). IfSome m (λ v. IsDerivation o (lines_of v.items))) c.in-Some.is c.in_ok-lines.ensures.derivation in
     (o, subst (λ (ls : List code_line.Line). IsDerivation o (lines_of ls)) (sym c.deref.ensures.value) derivation)
 
 pub returns-in-Some : goal.returns-in-Some
 returns-in-Some c =
-    let o = c.args.ontology.now in
-    let asked = c.args.saturation.now.normal.asked in
+    let o = c.args.indexed.now.ontology in
+    let asked = c.args.indexed.now.saturation.normal.asked in
     let e = c.args.class.0 in
     let derivation = subst (λ (m : Option (Vec code_line.Line)). IfSome m (λ v. IsDerivation o (lines_of v.items))) c.in-Some.is c.in_ok-lines.ensures.derivation in
     let has = at_some _ _ c.in_ok-lines.field-0 c.in-Some.lines c.in-Some.is c.in_ok-lines.ensures.shown in

@@ -1,5 +1,6 @@
 use Rattle.std.proofs.Common.{sym, subst}
 use Rattle.axioms.specs.Ontology.{nothing}
+use Rattle.answers.proofs.Lent.{whole_ontology}
 use Rattle.answers.proofs.Explaining.{at_some, derives_with}
 use Rattle.answers.specs.Explanations.{Derives}
 use Rattle.certificate.specs.Certificate.{Subject, Sub}
@@ -10,13 +11,13 @@ use Rattle.closure.specs.Denotations.{context_of}
 use Rattle.answers.proofs.derived.derivation_of.Goals as goal
 
 pub derivation_by_fact-requires-2-clause-class : goal.derivation_by_fact-requires-2-clause-class
-derivation_by_fact-requires-2-clause-class c = IsRoot.named _ nothing c.well_formed-2.ensures.nothing_node
+derivation_by_fact-requires-2-clause-class c = IsRoot.named _ nothing (whole_ontology c.closed-closed.ensures c.well_formed-2.ensures.ontology).nothing_node
 
 pub returns-in_ok-with_class-in-Some-2 : goal.returns-in_ok-with_class-in-Some-2
 returns-in_ok-with_class-in-Some-2 c =
-    let o = c.args.ontology.now in
+    let o = c.args.indexed.now.ontology in
     let empty = at_some _ _ c.in_ok-lines-2.field-0 c.in-Some-2.lines c.in-Some-2.is c.in_ok-lines-2.ensures in
-    derives_with o c.args.saturation.now.normal.asked c.well_formed-2.ensures (context_of c.args.subject) c.args.class.0 c.in-Some-2.lines.items (lines_of c.in_ok-with_class-in-Some-2.field-0.items)
+    derives_with o c.args.indexed.now.saturation.normal.asked (whole_ontology c.closed-closed.ensures c.well_formed-2.ensures.ontology) (context_of c.args.subject) c.args.class.0 c.in-Some-2.lines.items (lines_of c.in_ok-with_class-in-Some-2.field-0.items)
     (subject_in c.subject_of.result) c.subject_of.ensures c.requires.subject c.requires.class
     (subst (λ (z : Subject). Derives o (Sub z nothing) (lines_of c.in-Some-2.lines.items)) (sym c.subject_of.ensures) empty)
     c.in_ok-with_class-in-Some-2.ensures

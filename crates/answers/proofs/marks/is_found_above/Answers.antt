@@ -1,9 +1,16 @@
+use Rattle.std.proofs.Common.{ℕ, subst}
 use Rattle.std.proofs.lemmas.Bool.{false≢true}
-use Rattle.axioms.specs.Ontology.{Class}
+use Rattle.answers.specs.Questions.{PutsExpression}
 use Rattle.answers.proofs.marks.is_found_above.Goals as goal
+
+pub returns-in-Some : goal.returns-in-Some
+returns-in-Some c = (
+  λ t. (let (m, fact, at, puts) = c.is_put.ensures.0 t in (m, fact, at, (c.in-Some.above.0, c.in-Some.ensures.found, puts))),
+  λ (m, fact, at, (f, class, puts)). c.is_put.ensures.1 (m, fact, at, subst (λ (k : ℕ). PutsExpression fact c.args.expression.0 k) (c.in-Some.ensures.only f class) puts),
+)
 
 pub returns-in-None : goal.returns-in-None
 returns-in-None c = (
   λ t. absurd (false≢true t),
-  λ (m, fact, at, (f, class, puts)). absurd (false≢true (c.in-None.ensures.only.1 (c.well_formed-2.ensures.nodes f (Class c.args.number) class))),
+  λ (m, fact, at, (f, class, puts)). absurd (c.in-None.ensures.found f class),
 )

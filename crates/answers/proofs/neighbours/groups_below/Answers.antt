@@ -10,6 +10,7 @@ use Rattle.answers.specs.Names.{HasMark, IsMarked, groups_in}
 use Rattle.answers.specs.Neighbours.{AreGroups, AreMarksAmong, AreSatisfiable, IsNearer, IsNearest}
 use Rattle.answers.specs.Questions.{FollowsFor}
 use Rattle.answers.specs.declared.question.Question.TheVariants.{Below}
+use Rattle.answers.proofs.Lent.{whole_ontology}
 use Rattle.answers.proofs.NamedSides.{below_is}
 use Rattle.answers.specs.declared.nearest.Side.TheVariants as sides
 use Rattle.answers.proofs.Neighbouring.{among_same, children_are, lone_children_are, marks_apart, one_group_below, satisfiable_below}
@@ -19,15 +20,15 @@ abbrev nothing_id : ExprId
 nothing_id = record { 0 = nothing }
 
 pub marks_below-requires-clause-root : goal.marks_below-requires-clause-root
-marks_below-requires-clause-root c = IsRoot.named 1 nothing c.well_formed-2.ensures.nothing_node
+marks_below-requires-clause-root c = IsRoot.named 1 nothing (whole_ontology c.closed-closed.ensures c.well_formed-2.ensures.ontology).nothing_node
 
 pub marks_below-requires-clause-long : goal.marks_below-requires-clause-long
 marks_below-requires-clause-long c = c.requires.below.1.long
 
 pub nearest_groups-requires-clause-satisfiable : goal.nearest_groups-requires-clause-satisfiable
 nearest_groups-requires-clause-satisfiable c =
-    let o = c.args.ontology.now in
-    let w = c.well_formed-2.ensures in
+    let o = c.args.indexed.now.ontology in
+    let w = whole_ontology c.closed-closed.ensures c.well_formed-2.ensures.ontology in
     let marks = c.args.marks.now in
     let empty = c.deref.result.now in
     let left = c.in_ok-satisfiable.satisfiable.items in
@@ -39,8 +40,8 @@ nearest_groups-requires-clause-satisfiable c =
 
 pub returns-then-has_mark : goal.returns-then-has_mark
 returns-then-has_mark c =
-    let o = c.args.ontology.now in
-    let w = c.well_formed-2.ensures in
+    let o = c.args.indexed.now.ontology in
+    let w = whole_ontology c.closed-closed.ensures c.well_formed-2.ensures.ontology in
     let marks = c.args.marks.now in
     let empty = c.deref.result.now in
     let left = c.in_ok-satisfiable.satisfiable.items in
@@ -54,8 +55,8 @@ returns-then-has_mark c =
 
 pub one_group-requires-clause-same : goal.one_group-requires-clause-same
 one_group-requires-clause-same c =
-    let o = c.args.ontology.now in
-    let w = c.well_formed-2.ensures in
+    let o = c.args.indexed.now.ontology in
+    let w = whole_ontology c.closed-closed.ensures c.well_formed-2.ensures.ontology in
     let marks = c.args.marks.now in
     let empty = c.deref.result.now in
     let left = c.in_ok-satisfiable.satisfiable.items in
@@ -68,8 +69,8 @@ one_group-requires-clause-same c =
 
 pub returns : goal.returns
 returns c =
-    let o = c.args.ontology.now in
-    let w = c.well_formed-2.ensures in
+    let o = c.args.indexed.now.ontology in
+    let w = whole_ontology c.closed-closed.ensures c.well_formed-2.ensures.ontology in
     let marks = c.args.marks.now in
     let empty = c.deref.result.now in
     let left = c.in_ok-satisfiable.satisfiable.items in

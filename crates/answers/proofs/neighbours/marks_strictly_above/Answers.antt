@@ -10,7 +10,7 @@ marks_below-requires-clause-long c = ap length c.deref.ensures.value ∙ c.in_ok
 
 pub returns : goal.returns
 returns c =
-    let o = c.args.ontology.now in
+    let o = c.args.indexed.now.ontology in
     let e = c.args.class in
     let above = subst (λ (ms : List Bool). AreMarksOf o.names.classes (FollowsFor o (Above e)) ms) (sym c.deref-2.ensures.value) c.in_ok-above.ensures in
     let below = subst₂ (λ (ms ns : List Bool). AreMarksAmong ms o.names.classes (FollowsFor o (Below e)) ns) (c.deref.ensures.value ∙ sym c.deref-2.ensures.value) (sym c.deref-3.ensures.value) c.in_ok-below.ensures in

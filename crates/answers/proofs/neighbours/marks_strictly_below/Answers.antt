@@ -7,7 +7,7 @@ use Rattle.answers.proofs.neighbours.marks_strictly_below.Goals as goal
 
 pub returns : goal.returns
 returns c =
-    let o = c.args.ontology.now in
+    let o = c.args.indexed.now.ontology in
     let e = c.args.class in
     let above = subst (λ (ms : List Bool). AreMarksOf o.names.classes (FollowsFor o (Above e)) ms) (sym c.deref-2.ensures.value) c.in_ok-above.ensures in
     let below = subst (λ (ms : List Bool). AreMarksOf o.names.classes (FollowsFor o (Below e)) ms) (sym c.deref.ensures.value) c.in_ok-below.ensures in

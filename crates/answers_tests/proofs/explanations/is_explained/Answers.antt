@@ -1,4 +1,12 @@
+use Rattle.std.proofs.Common.{◌∙◌, ap, subst, sym}
+use Rattle.axioms.specs.Ontology.{Ontology}
+use Rattle.engine.specs.Closed.{Closed}
+use Rattle.answers.specs.Explanations.{Explains}
 use Rattle.answers_tests.proofs.explanations.is_explained.Goals as goal
 
 pub is_wanted-requires : goal.is_wanted-requires
-is_wanted-requires c = (c.args.question.now.asked, c.args.question.now.class.now, rw (c.in-Ok-Some.field-0-is) at c.in-Ok-Some.ensures.explains)
+is_wanted-requires c =
+    let asked = c.args.question.now.asked in
+    let class = c.args.question.now.class.now in
+    let same = c.ontology-ontology.ensures ∙ ap (λ (k : Closed). k.ontology) c.closed-closed.ensures in
+    (asked, class, subst (λ (o : Ontology). Explains o asked class c.in-Ok-Some.found) (sym same) (rw (c.in-Ok-Some.field-0-is) at c.in-Ok-Some.ensures.explains))

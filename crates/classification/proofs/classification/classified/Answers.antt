@@ -11,12 +11,12 @@ use Rattle.classification.proofs.classification.classified.Goals as goal
 
 pub returns-clause-counts : goal.returns-clause-counts
 returns-clause-counts c =
-    let o = c.args.ontology.now in
+    let o = c.args.closed.now.ontology in
     let made = c.in_ok-certificate.ensures in
-    let consistent = c.is_consistent-consistent in
+    let consistent = c.has_no_contradiction-consistent in
     let counted = c.counted.ensures in
-    counts_of o c.args.saturation.now c.counted.result consistent.result c.requires.saturated c.requires.unasked counted.consistent counted.classes counted.individuals counted.facts
-    (consistent_where o c.well_formed-2.ensures consistent.result (subst (λ asked. IsTrue consistent.result ↔ IsConsistent o asked) c.requires.unasked consistent.ensures) made.certificate.lines made.certificate.listed made.shown)
+    counts_of o c.args.closed.now.saturation c.counted.result consistent.result c.well_formed-2.ensures.saturated c.requires.unasked counted.consistent counted.classes counted.individuals counted.facts
+    (consistent_where o c.well_formed-2.ensures.ontology consistent.result (subst (λ asked. IsTrue consistent.result ↔ IsConsistent o asked) c.requires.unasked consistent.ensures) made.certificate.lines made.certificate.listed made.shown)
 
 pub returns-clause-facts : goal.returns-clause-facts
 returns-clause-facts c = c.counted.ensures.facts
@@ -27,7 +27,7 @@ returns-clause-texts c = rw (c.counted.ensures.consistent) c.in_ok-taxonomy.ensu
 pub returns-clause-acceptable : goal.returns-clause-acceptable
 returns-clause-acceptable c =
     let made = c.in_ok-certificate.ensures in
-    acceptable c.args.ontology.now c.well_formed-2.ensures c.is_consistent-consistent.result made.certificate _ _ _ (c.args.format, made.text_of) made.derivation made.shown c.in_ok-taxonomy.ensures
+    acceptable c.args.closed.now.ontology c.well_formed-2.ensures.ontology c.has_no_contradiction-consistent.result made.certificate _ _ _ (c.args.format, made.text_of) made.derivation made.shown c.in_ok-taxonomy.ensures
 
 -- acceptable texts are right
 right_where_acceptable : (o : Ontology) → IsOntology o → (taxonomy instances text : List ℕ) → IsAcceptable o taxonomy instances text → AreRight o taxonomy instances text
@@ -37,8 +37,8 @@ right_where_acceptable o w taxonomy instances text a =
 pub returns-clause-right : goal.returns-clause-right
 returns-clause-right c =
     let made = c.in_ok-certificate.ensures in
-    right_where_acceptable c.args.ontology.now c.well_formed-2.ensures _ _ _
-    (acceptable c.args.ontology.now c.well_formed-2.ensures c.is_consistent-consistent.result made.certificate _ _ _ (c.args.format, made.text_of) made.derivation made.shown c.in_ok-taxonomy.ensures)
+    right_where_acceptable c.args.closed.now.ontology c.well_formed-2.ensures.ontology _ _ _
+    (acceptable c.args.closed.now.ontology c.well_formed-2.ensures.ontology c.has_no_contradiction-consistent.result made.certificate _ _ _ (c.args.format, made.text_of) made.derivation made.shown c.in_ok-taxonomy.ensures)
 
 pub returns-clause-written : goal.returns-clause-written
 returns-clause-written c = (c.in_ok-certificate.ensures.certificate, c.in_ok-certificate.ensures.text_of)

@@ -5,7 +5,7 @@ use Rattle.classification.specs.Findings.{IsOutcomeOf}
 use Rattle.classification.proofs.classification.outcome.Goals as goal
 
 pub returns-then-consistent : goal.returns-then-consistent
-returns-then-consistent c = subst (λ b. IfOk c.relations.result (IsOutcomeOf c.args.ontology.now b)) (sym c.if-consistent.true) c.relations.ensures
+returns-then-consistent c = subst (λ b. IfOk c.relations.result (IsOutcomeOf c.args.closed.now.ontology b)) (sym c.if-consistent.true) c.relations.ensures
 
 pub returns-else-consistent : goal.returns-else-consistent
-returns-else-consistent c = subst (λ b. IsOutcomeOf c.args.ontology.now b Inconsistent) (sym c.if-consistent.false) tt
+returns-else-consistent c = subst (λ b. IsOutcomeOf c.args.closed.now.ontology b Inconsistent) (sym c.if-consistent.false) tt

@@ -1,29 +1,40 @@
-use Rattle.std.proofs.Common.{◌↔◌, All, IsTrue, get_or, subst}
-use Rattle.std.proofs.lemmas.List.Elements.{Contains-get_or}
+use Rattle.std.proofs.Common.{◌≡◌, ◌↔◌, IsTrue, length, not, subst, sym, ap, ◌∙◌}
+use Rattle.std.proofs.lemmas.Bool.{false≢true}
+use Rattle.axioms.specs.Ontology.{Ontology}
+use Rattle.axioms.specs.WellFormedness.{IsOntology}
+use Rattle.engine.specs.Closed.{Closed}
+use Rattle.engine.specs.Saturations.{IsSaturated}
+use Rattle.exactness.specs.ListedInterpretation.{IsConsistent}
 use Rattle.normalise.specs.Problem.{prefixes_of}
-use Rattle.classification.specs.Contradiction.{IsContradiction}
-use Rattle.classification.specs.Lists.{IsAboutIndividualOf}
-use Rattle.classification.proofs.Saying.{about_individual, consistent_by_facts}
+use Rattle.classification.specs.Contradiction.{IsFreeOfNothing, NoIndividualIsImpossible}
+use Rattle.classification.proofs.Saying.{consistent_by_finding}
 use Rattle.classification.proofs.consistent.is_consistent.Goals as goal
 
-pub finds_no_contradiction-requires : goal.finds_no_contradiction-requires
-finds_no_contradiction-requires c =
-    let o = c.args.ontology.now in
-    let s = c.args.saturation.now in
-    let fs = s.state.facts in
-    let each : All (IsAboutIndividualOf o) fs = λ k d l. about_individual o s.normal.asked c.well_formed-2.ensures (prefixes_of s.normal) fs c.requires.facts (get_or fs k d) (Contains-get_or fs k d l) in
-    each
+-- what is lent says so of the ontology
+by_finding : (lent own : Closed) → lent ≡ own → IsOntology lent.ontology → IsSaturated lent.ontology lent.saturation
+    → IsFreeOfNothing own.ontology own.saturation.state.facts ↔ IsConsistent own.ontology own.saturation.normal.asked
+by_finding lent own same w h =
+    let s = own.saturation in
+    consistent_by_finding own.ontology s.normal.asked (subst (λ c. IsOntology c.ontology) same w) (prefixes_of s.normal) s.state.facts
+    ((subst (λ c. IsSaturated c.ontology c.saturation) same h).facts)
 
-pub returns-then-can_grow : goal.returns-then-can_grow
-returns-then-can_grow c =
-    let s = c.args.saturation.now in
-    let by = consistent_by_facts c.args.ontology.now s.normal.asked c.well_formed-2.ensures (prefixes_of s.normal) s.state.facts c.requires.facts in
-    let free = c.finds_no_contradiction.ensures in
-    (λ t. by.0 (free.0 t), λ k. free.1 (by.1 k))
+pub returns-then-not-is_in_nothing : goal.returns-then-not-is_in_nothing
+returns-then-not-is_in_nothing c =
+    let own = c.args.indexed.now in
+    let lent = c.closed-closed in
+    let by = by_finding lent.result.now own lent.ensures c.well_formed-2.ensures.ontology c.well_formed-2.ensures.saturated in
+    let many = c.individuals.ensures.count ∙ ap (λ (o : Ontology). length o.names.individuals) (c.ontology-ontology.ensures ∙ ap (λ (k : Closed). k.ontology) lent.ensures) in
+    let none = c.has_no_impossible_individual in
+    let free = subst (λ n. IsTrue none.result ↔ NoIndividualIsImpossible n own.saturation.state.facts) many none.ensures in (
+      λ t. by.0 ((λ there. false≢true (sym c.if-not-is_in_nothing.true ∙ c.is_in_nothing.ensures.1 there)), free.0 t),
+      λ k. free.1 ((by.1 k).1),
+    )
 
-pub returns-else-can_grow : goal.returns-else-can_grow
-returns-else-can_grow c =
-    let s = c.args.saturation.now in
-    let by = consistent_by_facts c.args.ontology.now s.normal.asked c.well_formed-2.ensures (prefixes_of s.normal) s.state.facts c.requires.facts in
-    let free = subst (λ fs. IsTrue c.has_no_contradiction.result ↔ All (λ f. IsContradiction f → ⊥) fs) c.facts.ensures c.has_no_contradiction.ensures in
-    (λ t. by.0 (free.0 t), λ k. free.1 (by.1 k))
+pub returns-else-not-is_in_nothing : goal.returns-else-not-is_in_nothing
+returns-else-not-is_in_nothing c =
+    let lent = c.closed-closed in
+    let by = by_finding lent.result.now c.args.indexed.now lent.ensures c.well_formed-2.ensures.ontology c.well_formed-2.ensures.saturated in
+    let there = c.is_in_nothing.ensures.0 c.if-not-is_in_nothing.false in (
+      λ t. absurd (false≢true (subst (λ b. IsTrue (not b)) c.if-not-is_in_nothing.false t)),
+      λ k. absurd ((by.1 k).0 there),
+    )

@@ -1,5 +1,5 @@
 use Rattle.std.proofs.Common.{◌≡◌, refl, sym, subst}
-use Rattle.cert_check.specs.declared.conversion.ConvertFault.{ConvertFault}
+use Rattle.certificate_text.specs.declared.conversion.ConvertFault.{ConvertFault}
 use Rattle.cli.proofs.Telling.{told}
 use Rattle.cli.specs.Runs.{IsUnconvertedTold}
 use Rattle.cli.specs.Messages.{Output, cannot_write}

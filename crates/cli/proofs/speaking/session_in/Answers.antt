@@ -1,5 +1,7 @@
+use Rattle.std.proofs.lemmas.Result.{IfOk-weaker}
+use Rattle.cli.proofs.Kept.{opens_file}
 use Rattle.cli.proofs.ReadFiles.{IsOfFiles, opened_blamed}
-use Rattle.session.specs.Sessions.{Opened}
+use Rattle.session.specs.Sessions.{Opened, as_read}
 use Rattle.source_lines.specs.Sources.{source_state}
 use Rattle.cli.proofs.speaking.session_in.Goals as goal
 
@@ -15,3 +17,8 @@ returns-clause-blames g c =
     } in
     opened_blamed Opened files.reads_fail known (files.content c.args.files.now c.args.path.now) c.args.limits.now.max_bytes (source_state source c.in-Ok.document) (source_state source call.new.source) call.result
     c.in-Ok.ensures of call.ensures.lost call.ensures.unfailed call.ensures.failed call.ensures.whole call.ensures.beyond
+
+pub returns-clause-opened : goal.returns-clause-opened
+returns-clause-opened g c = IfOk-weaker c.open.result _ _
+    (λ s opens. opens_file c.args.limits.now.version (g.F.Files.content c.args.files.now c.args.path.now) _ c.args.limits.now.max_bytes (as_read s) c.in-Ok.ensures.left opens)
+    c.open.ensures.opened

@@ -1,4 +1,4 @@
-use Rattle.std.proofs.Common.{List, ◌<◌, All, length, sym, subst}
+use Rattle.std.proofs.Common.{List, ◌<◌, All, length, sym, ap, ◌∙◌, subst, ◌≡◌}
 use Rattle.std.proofs.lemmas.Option.{slice_get-get_or}
 use Rattle.facts.specs.declared.contexts.Fact.{Fact}
 use Rattle.indexes.specs.FactIndex.{IsFrom, IsIn}
@@ -8,25 +8,28 @@ use Rattle.countermodel.proofs.facts_of.facts_of.Goals as goal
 
 pub push_facts-requires : goal.push_facts-requires
 push_facts-requires c =
-    subst (λ (fs : List Fact). All (λ n. n < length fs) c.in-Some.classes.now) (sym c.facts-all.ensures)
-    (numbers_within (IsIn _) c.args.saturation.now.state.facts c.in-Some.classes.now c.in-Some.ensures.some)
+    let is = c.facts-all.ensures ∙ ap (λ k. k.saturation.state.facts) c.closed-closed.ensures in
+    subst (λ (fs : List Fact). All (λ n. n < length fs) c.classes_in.result.now) (sym is)
+    (numbers_within (IsIn _) c.args.indexed.now.saturation.state.facts c.classes_in.result.now c.classes_in.ensures)
 
 pub push_facts-requires-in-loop-context : goal.push_facts-requires-in-loop-context
 push_facts-requires-in-loop-context c =
-    subst (λ (fs : List Fact). All (λ n. n < length fs) c.in-Some-edges_from.edges.now) (sym c.facts-all.ensures)
-    (numbers_within (IsFrom _) c.args.saturation.now.state.facts c.in-Some-edges_from.edges.now c.in-Some-edges_from.ensures.some)
+    let is = c.facts-all.ensures ∙ ap (λ k. k.saturation.state.facts) c.closed-closed.ensures in
+    subst (λ (fs : List Fact). All (λ n. n < length fs) c.edges_from.result.now) (sym is)
+    (numbers_within (IsFrom _) c.args.indexed.now.saturation.state.facts c.edges_from.result.now c.edges_from.ensures)
 
 pub loop-context-preserved : goal.loop-context-preserved
 loop-context-preserved c =
-    let facts = c.args.saturation.now.state.facts in
+    let facts = c.args.indexed.now.saturation.state.facts in
+    let is : c.facts-all.result.now ≡ facts = c.facts-all.ensures ∙ ap (λ k. k.saturation.state.facts) c.closed-closed.ensures in
     let contexts = c.args.contexts.now in
     let k = c.loop-context.context-index in
     let low = c.loop-context-test.true in
-    let classes = c.in-Some.classes.now in
-    let edges = c.in-Some-edges_from.edges.now in
+    let classes = c.classes_in.result.now in
+    let edges = c.edges_from.result.now in
     let old = c.loop-context.facts.items in
     let now = c.push_facts.new.facts.items in
     let new = c.push_facts-in-loop-context.new.facts.items in
-    of_one_more facts contexts k _ low (slice_get-get_or contexts k _ low) classes c.in-Some.ensures.some edges c.in-Some-edges_from.ensures.some old now new c.loop-context.invariant
-    (subst (λ (fs : List Fact). AddsFacts fs classes old now) c.facts-all.ensures c.in_ok-push_facts.ensures)
-    (subst (λ (fs : List Fact). AddsFacts fs edges now new) c.facts-all.ensures c.in_ok-push_facts-2.ensures)
+    of_one_more facts contexts k _ low (slice_get-get_or contexts k _ low) classes c.classes_in.ensures edges c.edges_from.ensures old now new c.loop-context.invariant
+    (subst (λ (fs : List Fact). AddsFacts fs classes old now) is c.in_ok-push_facts.ensures)
+    (subst (λ (fs : List Fact). AddsFacts fs edges now new) is c.in_ok-push_facts-2.ensures)

@@ -1,8 +1,12 @@
-use Rattle.std.proofs.Common.{sym, ◌∙◌}
+use Rattle.std.proofs.Common.{sym, ap, ◌∙◌, subst}
 use Rattle.std.proofs.lemmas.Result.{IfOk-weaker}
+use Rattle.axioms.specs.Ontology.{Ontology}
+use Rattle.axioms.specs.WellFormedness.{IsOntology}
 use Rattle.closure.specs.Denotations.{context_of}
+use Rattle.engine.specs.Closed.{Closed}
 use Rattle.countermodel.specs.Leading.{IsElementBy}
 use Rattle.countermodel.specs.Reached.{IsReachedFrom}
+use Rattle.countermodel.specs.Sets.{IsWithin}
 use Rattle.countermodel.proofs.Facts.{satisfiable_within}
 use Rattle.countermodel.proofs.Leading.{leads_by}
 use Rattle.countermodel.proofs.Listing.{all_same}
@@ -11,19 +15,23 @@ use Rattle.countermodel.proofs.part.reached_elements.Goals as goal
 
 pub reached_from-requires-clause-within : goal.reached_from-requires-clause-within
 reached_from-requires-clause-within c =
-    satisfiable_within c.args.ontology.now c.args.saturation.now.normal.asked c.well_formed-2.ensures (context_of c.args.from) c.requires.satisfiable
+    let w = subst (λ (k : Closed). IsOntology k.ontology) c.closed-closed.ensures c.well_formed-2.ensures.ontology in
+    satisfiable_within c.args.indexed.now.ontology c.args.indexed.now.saturation.normal.asked w (context_of c.args.from) c.requires.satisfiable
 
 pub among-requires-clause-within : goal.among-requires-clause-within
 among-requires-clause-within c = λ x admitted.
-    let o = c.args.ontology.now in
-    let asked = c.args.saturation.now.normal.asked in
+    let o = c.args.indexed.now.ontology in
+    let asked = c.args.indexed.now.saturation.normal.asked in
+    let w = subst (λ (k : Closed). IsOntology k.ontology) c.closed-closed.ensures c.well_formed-2.ensures.ontology in
+    let is = c.ontology-ontology.ensures ∙ ap (λ (k : Closed). k.ontology) c.closed-closed.ensures in
     let reached = (c.in_ok-reached.ensures x).0 (sym (c.in_ok-satisfiable.ensures x) ∙ admitted) in
-    satisfiable_within o asked c.well_formed-2.ensures x (reached_has o asked c.requires.consistent (context_of c.args.from) c.requires.satisfiable c.requires.leads x reached).0
+    subst (λ (k : Ontology). IsWithin k x) (sym is)
+    (satisfiable_within o asked w x (reached_has o asked c.requires.consistent (context_of c.args.from) c.requires.satisfiable c.requires.leads x reached).0)
 
 pub returns : goal.returns
 returns c =
-    let o = c.args.ontology.now in
-    let asked = c.args.saturation.now.normal.asked in
+    let o = c.args.indexed.now.ontology in
+    let asked = c.args.indexed.now.saturation.normal.asked in
     let from = context_of c.args.from in
     let groups = c.args.groups.now in
     let leads = leads_by o asked groups c.requires.groups in

@@ -46,7 +46,7 @@ returns-in-None g c =
     let k = c.closure-closure.result.now in
     let elements = c.args.elements.now in
     let h = subst (HasRowsBelow adds (IsGiven k elements c.args.facts.now) start None now) c.in-None.is c.in_ok-add_ranges.ensures in
-    all_rows c.args.ontology.now c.args.saturation.now c.requires.saturated k c.closure-closure.ensures elements c.well_formed-2.ensures c.args.facts.now c.requires.facts h.pairs h.are
+    all_rows c.args.closed.now.ontology c.args.closed.now.saturation c.well_formed-2.ensures.saturated k c.closure-closure.ensures elements c.well_formed-2.ensures.ontology c.args.facts.now c.requires.facts h.pairs h.are
     (adds start now) (without_last adds start h.pairs now h.grouped)
 
 pub returns : goal.returns
@@ -59,6 +59,6 @@ returns g c =
     let elements = c.args.elements.now in
     let h = subst (HasRowsBelow adds (IsGiven k elements c.args.facts.now) start None old) c.in-Some.is c.in_ok-add_ranges.ensures in
     on_ok_weaker c.add.result
-    (λ takes. all_rows c.args.ontology.now c.args.saturation.now c.requires.saturated k c.closure-closure.ensures elements c.well_formed-2.ensures c.args.facts.now c.requires.facts h.pairs h.are
+    (λ takes. all_rows c.args.closed.now.ontology c.args.closed.now.saturation c.well_formed-2.ensures.saturated k c.closure-closure.ensures elements c.well_formed-2.ensures.ontology c.args.facts.now c.requires.facts h.pairs h.are
     (adds start new) (with_the_last adds start h.pairs old new c.in-Some.row takes h.grouped))
     c.add.ensures

@@ -7,7 +7,11 @@ use Rattle.countermodel.proofs.Taken.{all_taken}
 use Rattle.countermodel.proofs.rows.pair_rows.Goals as goal
 
 pub add_pair_rows-requires-clause-facts : goal.add_pair_rows-requires-clause-facts
-add_pair_rows-requires-clause-facts c = all_facts c.args.elements.now c.args.saturation.now.state.facts c.facts-facts.result.now c.facts-facts.ensures
+add_pair_rows-requires-clause-facts c = all_facts c.args.elements.now c.args.closed.now.saturation.state.facts c.facts-facts.result.now c.facts-facts.ensures
 
 pub returns : goal.returns
-returns c = all_taken (λ (rows : List PairRow). ArePairRows c.args.ontology.now c.args.saturation.now.normal.asked c.args.elements.now (map pair_row_of rows)) c.new-rows.result.items c.add_pair_rows.new.rows.items c.new-rows.ensures.items c.in_ok-add_pair_rows.ensures
+returns c =
+    let o = c.args.closed.now.ontology in
+    let asked = c.args.closed.now.saturation.normal.asked in
+    all_taken (λ (rows : List PairRow). ArePairRows o asked c.args.elements.now (map pair_row_of rows))
+    c.new-rows.result.items c.add_pair_rows.new.rows.items c.new-rows.ensures.items c.in_ok-add_pair_rows.ensures

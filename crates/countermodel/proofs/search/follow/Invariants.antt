@@ -4,5 +4,5 @@ use Rattle.countermodel.proofs.search.follow.Given as goal
 
 abbrev pub invariant-loop-number : goal.invariant-loop-number
 invariant-loop-number l =
-    IsSearch l.ontology l.search
-    × AddsContexts (LeadByFacts l.ontology l.saturation.normal.asked l.saturation.state.facts (take l.number-index l.numbers)) l.fn.search.found.items l.search.found.items
+    IsSearch l.indexed.ontology l.search
+    × AddsContexts (LeadByFacts l.indexed.ontology l.indexed.saturation.normal.asked l.indexed.saturation.state.facts (take l.number-index l.numbers)) l.fn.search.found.items l.search.found.items

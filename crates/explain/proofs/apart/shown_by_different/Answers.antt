@@ -52,69 +52,69 @@ some_forms fs i j (n ∷ ns) other chain = omega arith
 
 pub unreachable-requires : goal.unreachable-requires
 unreachable-requires g c =
-    let s = c.args.basis.now.saturation.now in
+    let s = c.args.basis.now.closed.now.saturation in
     let (r, born, twelve, place) = c.requires.born in
-    speaks c.args.basis.now.ontology.now s c.requires.saturated c.args.fact.0 r born c.fact_of-fact.result c.fact_of-fact.ensures c.args.list place twelve
+    speaks c.args.basis.now.closed.now.ontology s c.well_formed-2.ensures.saturated c.args.fact.0 r born c.fact_of-fact.result c.fact_of-fact.ensures c.args.list place twelve
     (speaks_of_none c.fact_of-fact.result c.individual_of.result c.individual_of.ensures c.in_default.is)
 
-pub chain_to_another-requires-clause-there : goal.chain_to_another-requires-clause-there
-chain_to_another-requires-clause-there g c =
-    let o = c.args.basis.now.ontology.now in
-    let s = c.args.basis.now.saturation.now in
+pub chain_to_another-requires : goal.chain_to_another-requires
+chain_to_another-requires g c =
+    let o = c.args.basis.now.closed.now.ontology in
+    let s = c.args.basis.now.closed.now.saturation in
     let (r, born, twelve, place) = c.requires.born in
     let (class, is) = speaks_of c.fact_of-fact.result c.individual_of.result c.in-Some.individual c.individual_of.ensures c.in-Some.is in
-    let (other, listed, one) = another o s c.requires.saturated c.args.fact.0 r born c.fact_of-fact.result c.fact_of-fact.ensures c.args.list place twelve class c.in-Some.individual is in
-    first_within o s c.well_formed-2.ensures c.requires.saturated c.args.list c.in-Some.individual other listed
+    let (other, listed, one) = another o s c.well_formed-2.ensures.saturated c.args.fact.0 r born c.fact_of-fact.result c.fact_of-fact.ensures c.args.list place twelve class c.in-Some.individual is in
+    record { there = first_within o s c.well_formed-2.ensures.ontology c.well_formed-2.ensures.saturated c.args.list c.in-Some.individual other listed }
 
 pub unreachable-requires-in_default-found : goal.unreachable-requires-in_default-found
 unreachable-requires-in_default-found g c =
-    let o = c.args.basis.now.ontology.now in
-    let s = c.args.basis.now.saturation.now in
+    let o = c.args.basis.now.closed.now.ontology in
+    let s = c.args.basis.now.closed.now.saturation in
     let i = c.in-Some.individual in
     let (r, born, twelve, place) = c.requires.born in
     let (class, is) = speaks_of c.fact_of-fact.result c.individual_of.result i c.individual_of.ensures c.in-Some.is in
-    let (other, listed, one) = another o s c.requires.saturated c.args.fact.0 r born c.fact_of-fact.result c.fact_of-fact.ensures c.args.list place twelve class i is in
+    let (other, listed, one) = another o s c.well_formed-2.ensures.saturated c.args.fact.0 r born c.fact_of-fact.result c.fact_of-fact.ensures c.args.list place twelve class i is in
     none_found (AreListedAt s.normal.apart.individuals c.args.list i) s.state.problem.forms c.in_ok-found.found i c.in_ok-found.ensures c.in_default-found.is other listed one
 
 pub same_along-requires-clause-some : goal.same_along-requires-clause-some
 same_along-requires-clause-some g c =
-    let s = c.args.basis.now.saturation.now in
+    let s = c.args.basis.now.closed.now.saturation in
     let i = c.in-Some.individual in
     let (other, listed, chain) = chain_found (AreListedAt s.normal.apart.individuals c.args.list i) s.state.problem.forms c.in_ok-found.found c.in-Some-found.chain c.deref.result.now i c.in_ok-found.ensures c.in-Some-found.is c.deref.ensures.value in
-    some_forms s.state.problem.forms i other c.deref.result.now (two c.args.basis.now.ontology.now s c.well_formed-2.ensures c.requires.saturated c.args.list i other listed) chain
+    some_forms s.state.problem.forms i other c.deref.result.now (two c.args.basis.now.closed.now.ontology s c.well_formed-2.ensures.ontology c.well_formed-2.ensures.saturated c.args.list i other listed) chain
 
 pub same_along-requires-clause-chain : goal.same_along-requires-clause-chain
 same_along-requires-clause-chain g c =
-    let s = c.args.basis.now.saturation.now in
+    let s = c.args.basis.now.closed.now.saturation in
     let i = c.in-Some.individual in
     let (other, listed, chain) = chain_found (AreListedAt s.normal.apart.individuals c.args.list i) s.state.problem.forms c.in_ok-found.found c.in-Some-found.chain c.deref.result.now i c.in_ok-found.ensures c.in-Some-found.is c.deref.ensures.value in
     (other, chain)
 
 -- the line leads to the fact
-leading : (g : Over) (c : goal.After-drop-chain-2 g) → LeadTo c.args.basis.now.ontology.now (prefixes_of c.args.basis.now.saturation.now.normal) c.same_along.new.derivation K20 c.different_axiom-axiom.result c.push.new.self.items c.fact_of-fact.result
+leading : (g : Over) (c : goal.After-drop-chain-2 g) → LeadTo c.args.basis.now.closed.now.ontology (prefixes_of c.args.basis.now.closed.now.saturation.normal) c.same_along.new.derivation K20 c.different_axiom-axiom.result c.push.new.self.items c.fact_of-fact.result
 leading g c =
-    let o = c.args.basis.now.ontology.now in
-    let s = c.args.basis.now.saturation.now in
+    let o = c.args.basis.now.closed.now.ontology in
+    let s = c.args.basis.now.closed.now.saturation in
     let f = c.fact_of-fact.result in
     let i = c.in-Some.individual in
     let (r, born, twelve, place) = c.requires.born in
     let (class, is) = speaks_of f c.individual_of.result i c.individual_of.ensures c.in-Some.is in
     let (other, listed, chain) = chain_found (AreListedAt s.normal.apart.individuals c.args.list i) s.state.problem.forms c.in_ok-found.found c.in-Some-found.chain c.deref.result.now i c.in_ok-found.ensures c.in-Some-found.is c.deref.ensures.value in
     let says = c.in_ok-number.ensures.says other chain in
-    let here = in_nothing o s c.requires.saturated c.args.fact.0 r born f c.fact_of-fact.ensures c.args.list place twelve class i is in
-    let to = different_leads o s c.well_formed-2.ensures c.requires.saturated c.args.list i other listed c.args.fact.0 f c.fact_of-fact.ensures here c.same_along.new.derivation c.in_ok-number.number says in
+    let here = in_nothing o s c.well_formed-2.ensures.saturated c.args.fact.0 r born f c.fact_of-fact.ensures c.args.list place twelve class i is in
+    let to = different_leads o s c.well_formed-2.ensures.ontology c.well_formed-2.ensures.saturated c.args.list i other listed c.args.fact.0 f c.fact_of-fact.ensures here c.same_along.new.derivation c.in_ok-number.number says in
     let numbers : c.push.new.self.items ≡ c.in_ok-number.number ∷ [] = c.in_ok-push.ensures.ok ∙ ap (λ ns. ns ++ c.in_ok-number.number ∷ []) c.new-numbers.ensures.items in
     let by = c.different_axiom-axiom.ensures ∙ ap (λ (v : Listing). slice_get v.different_axioms c.args.list) c.normal.ensures in
     subst₂ (λ (ns : List ℕ) (found : Option ℕ). LeadTo o (prefixes_of s.normal) c.same_along.new.derivation K20 found ns f) (sym numbers) (sym by) to
 
 pub returns-clause-derivation : goal.returns-clause-derivation
-returns-clause-derivation g c = c.in_ok-numbers.ensures.derivation c.args.basis.now.ontology.now (prefixes_of c.args.basis.now.saturation.now.normal) c.in_ok-number.ensures.derivation (leading g c)
+returns-clause-derivation g c = c.in_ok-numbers.ensures.derivation c.args.basis.now.closed.now.ontology (prefixes_of c.args.basis.now.closed.now.saturation.normal) c.in_ok-number.ensures.derivation (leading g c)
 
 pub returns-clause-shown : goal.returns-clause-shown
 returns-clause-shown g c f at =
-    let s = c.args.basis.now.saturation.now in
+    let s = c.args.basis.now.closed.now.saturation in
     subst (AreShowing (prefixes_of s.normal) c.concluded.new.derivation c.in_ok-numbers.numbers.items) (same_Some c.fact_of-fact.result f (sym c.fact_of-fact.ensures ∙ at))
-    (c.in_ok-numbers.ensures.shown c.args.basis.now.ontology.now (prefixes_of s.normal) (leading g c))
+    (c.in_ok-numbers.ensures.shown c.args.basis.now.closed.now.ontology (prefixes_of s.normal) (leading g c))
 
 pub returns-clause-used : goal.returns-clause-used
 returns-clause-used g c =

@@ -4,7 +4,7 @@ use Rattle.explain.specs.Needs.{EachIsNeeded}
 use Rattle.explain.proofs.derivations.contradiction_text.Goals as goal
 
 pub returns-clause-derivation : goal.returns-clause-derivation
-returns-clause-derivation g c = subst (IsDerivation c.args.ontology.now) (sym (c.into_text.ensures ∙ c.into_sink.ensures)) c.in_ok-add_contradiction.ensures.derivation
+returns-clause-derivation g c = subst (IsDerivation c.args.closed.now.ontology) (sym (c.into_text.ensures ∙ c.into_sink.ensures)) c.in_ok-add_contradiction.ensures.derivation
 
 pub returns-clause-needed : goal.returns-clause-needed
-returns-clause-needed g c = subst (EachIsNeeded c.args.ontology.now c.args.saturation.now.normal.asked) (sym (c.into_text.ensures ∙ c.into_sink.ensures)) c.in_ok-add_contradiction.ensures.needed
+returns-clause-needed g c = subst (EachIsNeeded c.args.closed.now.ontology c.args.closed.now.saturation.normal.asked) (sym (c.into_text.ensures ∙ c.into_sink.ensures)) c.in_ok-add_contradiction.ensures.needed

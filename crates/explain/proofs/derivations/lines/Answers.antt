@@ -4,7 +4,7 @@ use Rattle.explain.specs.Needs.{EachIsNeeded}
 use Rattle.explain.proofs.derivations.lines.Goals as goal
 
 pub returns-clause-derivation : goal.returns-clause-derivation
-returns-clause-derivation c = subst (IsDerivation c.args.ontology.now) (sym (c.into_lines.ensures ∙ c.into_sink.ensures)) c.in_ok-add_facts.ensures.derivation
+returns-clause-derivation c = subst (IsDerivation c.args.closed.now.ontology) (sym (c.into_lines.ensures ∙ c.into_sink.ensures)) c.in_ok-add_facts.ensures.derivation
 
 pub returns-clause-needed : goal.returns-clause-needed
-returns-clause-needed c = subst (EachIsNeeded c.args.ontology.now c.args.saturation.now.normal.asked) (sym (c.into_lines.ensures ∙ c.into_sink.ensures)) c.in_ok-add_facts.ensures.needed
+returns-clause-needed c = subst (EachIsNeeded c.args.closed.now.ontology c.args.closed.now.saturation.normal.asked) (sym (c.into_lines.ensures ∙ c.into_sink.ensures)) c.in_ok-add_facts.ensures.needed

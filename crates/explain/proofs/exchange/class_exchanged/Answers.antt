@@ -16,7 +16,7 @@ use Rattle.explain.proofs.exchange.class_exchanged.Goals as goal
 
 pub index-requires : goal.index-requires
 index-requires g c =
-    let long = operands_there c.normal.result.now c.args.basis.now.saturation.now.normal c.normal.ensures c.args.derivation.now c.args.known.now c.args.class c.in_ok-operands.operands.items c.in_ok-operands.ensures (Individual c.args.exchange.old) c.requires.shown in
+    let long = operands_there c.normal.result.now c.args.basis.now.closed.now.saturation.normal c.normal.ensures c.args.derivation.now c.args.known.now c.args.class c.in_ok-operands.operands.items c.in_ok-operands.ensures (Individual c.args.exchange.old) c.requires.shown in
     omega (arith, long, c.loop-place-test.true, c.in_ok-operands.operands.ok)
 
 pub loop-place-preserved : goal.loop-place-preserved
@@ -26,14 +26,14 @@ loop-place-preserved g c =
     let k = c.loop-place.place in
     let d : ExprId = c.index.result.now in
     let longer = lengthened_twice c.in_ok-same.ensures.longer c.in_ok-number.ensures.longer in
-    let says = operand_at c.normal.result.now c.args.basis.now.saturation.now.normal c.normal.ensures mid c.args.known.now c.args.class c.in_ok-operands.operands.items c.in_ok-operands.ensures (Individual c.args.exchange.old)
+    let says = operand_at c.normal.result.now c.args.basis.now.closed.now.saturation.normal c.normal.ensures mid c.args.known.now c.args.class c.in_ok-operands.operands.items c.in_ok-operands.ensures (Individual c.args.exchange.old)
     (showing_grown (lengthened_twice before.longer c.in_ok-same.ensures.longer) c.requires.shown) k d (omega (arith, c.loop-place-test.true)) in record {
-      derivation = c.in_ok-number.ensures.derivation c.args.basis.now.ontology.now c.in_ok-same.ensures.derivation
-          (class_follows c.args.basis.now.ontology.now mid c.in_ok-same.same _ c.args.exchange.new c.args.exchange.old c.in_ok-same.ensures.derivation c.in_ok-same.ensures.says _ (says ∙ ap (λ (e : ExprId). Some (Sub (subject_in (Individual c.args.exchange.old)) e.0)) (sym c.index.ensures)));
+      derivation = c.in_ok-number.ensures.derivation c.args.basis.now.closed.now.ontology c.in_ok-same.ensures.derivation
+          (class_follows c.args.basis.now.closed.now.ontology mid c.in_ok-same.same _ c.args.exchange.new c.args.exchange.old c.in_ok-same.ensures.derivation c.in_ok-same.ensures.says _ (says ∙ ap (λ (e : ExprId). Some (Sub (subject_in (Individual c.args.exchange.old)) e.0)) (sym c.index.ensures)));
       longer = lengthened_twice before.longer longer;
       at = subst (λ ns. at_numbers (conclusions c.followed.new.derivation) ns ≡ Some (map (Sub (line.Individual c.args.exchange.new.0)) (take (k + 1) (expr_numbers c.in_ok-operands.operands.items)))) (sym c.in_ok-push.ensures.ok)
           (class_more c.loop-place.derivation c.followed.new.derivation c.loop-place.numbers.items c.in_ok-number.number (line.Individual c.args.exchange.new.0) (expr_numbers c.in_ok-operands.operands.items) k (get_or c.in_ok-operands.operands.items k d).0
-          (operand_read c.normal.result.now c.args.basis.now.saturation.now.normal c.normal.ensures c.args.derivation.now c.args.known.now c.args.class c.in_ok-operands.operands.items c.in_ok-operands.ensures (Individual c.args.exchange.old) c.requires.shown k d (omega (arith, c.loop-place-test.true)))
+          (operand_read c.normal.result.now c.args.basis.now.closed.now.saturation.normal c.normal.ensures c.args.derivation.now c.args.known.now c.args.class c.in_ok-operands.operands.items c.in_ok-operands.ensures (Individual c.args.exchange.old) c.requires.shown k d (omega (arith, c.loop-place-test.true)))
           longer before.at (c.in_ok-number.ensures.says ∙ ap (λ (e : ExprId). Some (Sub (line.Individual c.args.exchange.new.0) e.0)) c.index.ensures));
       used = subst (Uses c.args.derivation.now c.followed.new.derivation (IsAmong (take (k + 1) c.args.known.now))) (sym c.in_ok-push.ensures.ok)
           (used_next c.args.derivation.now c.loop-place.derivation c.followed.new.derivation c.args.known.now c.loop-place.numbers.items k 0 c.in_ok-number.number (omega (arith, c.loop-place-test.true)) longer before.used
@@ -42,7 +42,7 @@ loop-place-preserved g c =
 
 pub returns-clause-shown : goal.returns-clause-shown
 returns-clause-shown g c =
-    class_moved c.normal.result.now c.args.basis.now.saturation.now.normal c.normal.ensures c.args.derivation.now c.args.known.now c.args.class c.in_ok-operands.operands.items c.in_ok-operands.ensures (Individual c.args.exchange.old) c.requires.shown
+    class_moved c.normal.result.now c.args.basis.now.closed.now.saturation.normal c.normal.ensures c.args.derivation.now c.args.known.now c.args.class c.in_ok-operands.operands.items c.in_ok-operands.ensures (Individual c.args.exchange.old) c.requires.shown
     c.loop-place.derivation c.loop-place.numbers.items (Individual c.args.exchange.new) c.loop-place.place (omega (arith, c.loop-place-test.false)) c.loop-place.invariant.at
 
 pub returns-clause-used : goal.returns-clause-used

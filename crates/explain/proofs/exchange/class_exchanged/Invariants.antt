@@ -9,7 +9,7 @@ use Rattle.explain.proofs.exchange.class_exchanged.Given as goal
 
 abbrev pub invariant-loop-place : goal.invariant-loop-place
 invariant-loop-place g l = record {
-  derivation : IsDerivation l.basis.ontology.now l.derivation;
+  derivation : IsDerivation l.basis.closed.now.ontology l.derivation;
   longer : Lengthens l.fn.derivation l.derivation;
   at : at_numbers (conclusions l.derivation) l.numbers.items ≡ Some (map (Sub (Individual l.new.0)) (take l.place (expr_numbers l.operands.items)));
   used : Uses l.fn.derivation l.derivation (IsAmong (take l.place l.known)) l.numbers.items;

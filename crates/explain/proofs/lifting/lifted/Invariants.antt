@@ -11,8 +11,8 @@ use Rattle.explain.proofs.lifting.lifted.Given as goal
 
 abbrev pub invariant-loop-form : goal.invariant-loop-form
 invariant-loop-form g l = record {
-  derivation : IsDerivation l.basis.ontology.now l.derivation;
+  derivation : IsDerivation l.basis.closed.now.ontology l.derivation;
   longer : Lengthens l.initial.derivation l.derivation;
-  shown : (r : PropId) × (to : PropId) × (l.fn.above ≡ Property to) × IsPath l.basis.paths.now r (drop l.form-index l.form-items) to × AreShowing (prefixes_of l.basis.saturation.now.normal) l.derivation l.lines.items (Edge l.ends.source (Property r) l.ends.target);
+  shown : (r : PropId) × (to : PropId) × (l.fn.above ≡ Property to) × IsPath l.basis.paths.now r (drop l.form-index l.form-items) to × AreShowing (prefixes_of l.basis.closed.now.saturation.normal) l.derivation l.lines.items (Edge l.ends.source (Property r) l.ends.target);
   used : Uses l.initial.derivation l.derivation (IsAmong l.fn.numbers.items) l.lines.items;
 }

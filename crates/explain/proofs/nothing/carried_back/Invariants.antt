@@ -8,7 +8,7 @@ use Rattle.explain.proofs.nothing.carried_back.Given as goal
 
 abbrev pub invariant-loop-k : goal.invariant-loop-k
 invariant-loop-k g l = record {
-  derivation : IsDerivation l.ontology l.derivation;
+  derivation : IsDerivation l.closed.ontology l.derivation;
   longer : Lengthens l.fn.derivation l.derivation;
   leads : (x : Subject) → LeadsToNothing l.fn.derivation l.walk l.end x → LeadsToNothing l.derivation (take l.k l.walk) l.number x;
   used : Uses l.fn.derivation l.derivation (IsAmong (l.walk ++ l.end ∷ [])) (take l.k l.walk ++ l.number ∷ []);

@@ -10,8 +10,8 @@ pub returns-clause-derivation : goal.returns-clause-derivation
 returns-clause-derivation g c =
     let (x, l) = c.requires.edge in
     let same = same_source c.args.derivation.now c.args.edge c.args.end x (subject_of c.in-Some.source) l c.in-Some.ensures in
-    c.in_ok-number.ensures.derivation c.args.ontology.now c.requires.derivation
-    (carried_line c.args.ontology.now c.args.derivation.now c.args.edge c.args.end x (subject_of c.in-Some.source) (c.args.edge ∷ c.args.end ∷ []) c.well_formed-2.ensures c.requires.derivation l same refl)
+    c.in_ok-number.ensures.derivation c.args.closed.now.ontology c.requires.derivation
+    (carried_line c.args.closed.now.ontology c.args.derivation.now c.args.edge c.args.end x (subject_of c.in-Some.source) (c.args.edge ∷ c.args.end ∷ []) c.well_formed-2.ensures.ontology c.requires.derivation l same refl)
 
 pub returns-clause-shown : goal.returns-clause-shown
 returns-clause-shown g c x l =

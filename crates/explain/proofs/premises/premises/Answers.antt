@@ -10,14 +10,14 @@ lifted_to-requires-clause-there g c = c.requires.there c.in-One.only.0 (only_num
 
 pub lifted_to-requires-clause-below : goal.lifted_to-requires-clause-below
 lifted_to-requires-clause-below g c f there =
-    only_leads c.args.basis.now.saturation.now.state.facts c.args.basis.now.saturation.now.state.problem.forms c.args.form.now c.args.older c.requires.below c.in-One.only _ f c.in-One.is c.first_property-property.ensures there
+    only_leads c.args.basis.now.closed.now.saturation.state.facts c.args.basis.now.closed.now.saturation.state.problem.forms c.args.form.now c.args.older c.requires.below c.in-One.only _ f c.in-One.is c.first_property-property.ensures there
 
 pub lifted_to-requires-in-Two-clause-there : goal.lifted_to-requires-in-Two-clause-there
 lifted_to-requires-in-Two-clause-there g c = c.requires.there c.in-Two.first.0 (first_number c.args.older c.in-Two.first c.in-Two.second c.in-Two.is)
 
 pub lifted_to-requires-in-Two-clause-below : goal.lifted_to-requires-in-Two-clause-below
 lifted_to-requires-in-Two-clause-below g c f there =
-    first_leads c.args.basis.now.saturation.now.state.facts c.args.basis.now.saturation.now.state.problem.forms c.args.form.now c.args.older c.requires.below c.in-Two.first c.in-Two.second _ f c.in-Two.is c.first_property-property-in-Two.ensures
+    first_leads c.args.basis.now.closed.now.saturation.state.facts c.args.basis.now.closed.now.saturation.state.problem.forms c.args.form.now c.args.older c.requires.below c.in-Two.first c.in-Two.second _ f c.in-Two.is c.first_property-property-in-Two.ensures
     (c.requires.there c.in-Two.second.0 (second_number c.args.older c.in-Two.first c.in-Two.second c.in-Two.is)) there
 
 pub lifted_to-requires-in-Two-2-clause-there : goal.lifted_to-requires-in-Two-2-clause-there
@@ -30,12 +30,12 @@ lifted_to-requires-in-Two-2-clause-shown g c f there =
 
 pub lifted_to-requires-in-Two-2-clause-below : goal.lifted_to-requires-in-Two-2-clause-below
 lifted_to-requires-in-Two-2-clause-below g c f there =
-    second_leads c.args.basis.now.saturation.now.state.facts c.args.basis.now.saturation.now.state.problem.forms c.args.form.now c.args.older c.requires.below c.in-Two.first c.in-Two.second _ f c.in-Two.is c.second_property-property.ensures
+    second_leads c.args.basis.now.closed.now.saturation.state.facts c.args.basis.now.closed.now.saturation.state.problem.forms c.args.form.now c.args.older c.requires.below c.in-Two.first c.in-Two.second _ f c.in-Two.is c.second_property-property.ensures
     (c.requires.there c.in-Two.first.0 (first_number c.args.older c.in-Two.first c.in-Two.second c.in-Two.is)) there
 
 pub returns-in_ok-extend_from_slice-in-Two-clause-shown : goal.returns-in_ok-extend_from_slice-in-Two-clause-shown
 returns-in_ok-extend_from_slice-in-Two-clause-shown g c fs at =
-    two_taken (prefixes_of c.args.basis.now.saturation.now.normal) c.lifted_to-in-Two-2.new.derivation c.args.basis.now.saturation.now.state.facts c.args.form.now c.args.older c.in-Two.first c.in-Two.second _ _
+    two_taken (prefixes_of c.args.basis.now.closed.now.saturation.normal) c.lifted_to-in-Two-2.new.derivation c.args.basis.now.closed.now.saturation.state.facts c.args.form.now c.args.older c.in-Two.first c.in-Two.second _ _
     c.in_ok-numbers-in-Two.numbers.items c.in_ok-more-in-Two.more.items _ c.in-Two.is c.first_property-property-in-Two.ensures c.second_property-property.ensures
     (c.requires.there c.in-Two.first.0 (first_number c.args.older c.in-Two.first c.in-Two.second c.in-Two.is))
     (c.requires.there c.in-Two.second.0 (second_number c.args.older c.in-Two.first c.in-Two.second c.in-Two.is))

@@ -6,7 +6,7 @@ use Rattle.explain.proofs.same.same_along.Goals as goal
 
 pub loop-place-init : goal.loop-place-init
 loop-place-init g c =
-    let forms = c.args.basis.now.saturation.now.state.problem.forms in record {
+    let forms = c.args.basis.now.closed.now.saturation.state.problem.forms in record {
       derivation = c.in_ok-at.ensures.derivation;
       longer = c.in_ok-at.ensures.longer;
       chain = chain_next forms c.args.first c.args.chain.now 0 0 c.in_ok-at.at c.requires.some c.in_ok-at.ensures.only;
@@ -20,7 +20,7 @@ joined-requires-clause-says g c =
 
 pub loop-place-preserved : goal.loop-place-preserved
 loop-place-preserved g c =
-    let forms = c.args.basis.now.saturation.now.state.problem.forms in record {
+    let forms = c.args.basis.now.closed.now.saturation.state.problem.forms in record {
       derivation = c.in_ok-number.ensures.derivation;
       longer = lengthened_twice c.loop-place.invariant.longer (lengthened_twice c.in_ok-next.ensures.longer c.in_ok-number.ensures.longer);
       chain = λ j chain. chain_next forms c.loop-place.at c.args.chain.now c.loop-place.place 0 c.in_ok-next.next (omega (arith, c.loop-place-test.true)) c.in_ok-next.ensures.only j (c.loop-place.invariant.chain j chain);

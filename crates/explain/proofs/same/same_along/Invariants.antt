@@ -9,9 +9,9 @@ use Rattle.explain.proofs.same.same_along.Given as goal
 
 abbrev pub invariant-loop-place : goal.invariant-loop-place
 invariant-loop-place g l = record {
-  derivation : IsDerivation l.basis.ontology.now l.derivation;
+  derivation : IsDerivation l.basis.closed.now.ontology l.derivation;
   longer : Lengthens l.fn.derivation l.derivation;
-  chain : (j : IndId) → IsChain l.basis.saturation.now.state.problem.forms l.first l.chain j → IsChain l.basis.saturation.now.state.problem.forms l.at (drop l.place l.chain) j;
+  chain : (j : IndId) → IsChain l.basis.closed.now.saturation.state.problem.forms l.first l.chain j → IsChain l.basis.closed.now.saturation.state.problem.forms l.at (drop l.place l.chain) j;
   says : SaysSame l.derivation l.number l.first l.at;
   used : Uses l.fn.derivation l.derivation (IsAmong []) (l.number ∷ []);
 }

@@ -14,8 +14,8 @@ use Rattle.explain.proofs.same.same_line.Goals as goal
 
 pub unreachable-requires : goal.unreachable-requires
 unreachable-requires g c =
-    let s = c.args.basis.now.saturation.now in
-    let (number, by) = linked_by_axiom c.args.basis.now.ontology.now s c.requires.saturated c.args.form c.args.first c.args.second c.requires.linked in
+    let s = c.args.basis.now.closed.now.saturation in
+    let (number, by) = linked_by_axiom c.args.basis.now.closed.now.ontology s c.well_formed-2.ensures.saturated c.args.form c.args.first c.args.second c.requires.linked in
     let found = c.axiom_of.ensures number (ap (λ (v : Listing). option_map origin_in (slice_get v.entries c.args.form)) c.normal.ensures ∙ by) in
     c.in_default-axiom_of.not-Some number found
 
@@ -24,13 +24,13 @@ keep_same-requires g c = last_says c.args.derivation.now c.add.new.self _ c.in_o
 
 pub returns-clause-derivation : goal.returns-clause-derivation
 returns-clause-derivation g c =
-    let o = c.args.basis.now.ontology.now in
-    let s = c.args.basis.now.saturation.now in
-    let (number, by) = linked_by_axiom o s c.requires.saturated c.args.form c.args.first c.args.second c.requires.linked in
+    let o = c.args.basis.now.closed.now.ontology in
+    let s = c.args.basis.now.closed.now.saturation in
+    let (number, by) = linked_by_axiom o s c.well_formed-2.ensures.saturated c.args.form c.args.first c.args.second c.requires.linked in
     let found = c.axiom_of.ensures number (ap (λ (v : Listing). option_map origin_in (slice_get v.entries c.args.form)) c.normal.ensures ∙ by) in
     let same : number ≡ c.in-Some-axiom_of.axiom = same_Some number c.in-Some-axiom_of.axiom (sym found ∙ c.in-Some-axiom_of.is) in
     let line : ℕ → Line = λ n. record { conclusion = Same c.args.first.0 c.args.second.0; rule = K17; axiom' = Some n; premises = [] } in
-    let derived = same_derived o s c.requires.saturated c.well_formed-2.ensures c.args.form c.args.first c.args.second number c.requires.linked by c.args.derivation.now in
+    let derived = same_derived o s c.well_formed-2.ensures.saturated c.well_formed-2.ensures.ontology c.args.form c.args.first c.args.second number c.requires.linked by c.args.derivation.now in
     subst (IsDerivation o) (sym c.keep_same.ensures)
     (c.in_ok-number.ensures.derivation o c.requires.derivation
     (subst (λ n. IsDerived o c.args.derivation.now (line n)) same derived))

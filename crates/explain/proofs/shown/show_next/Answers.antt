@@ -10,19 +10,19 @@ pub returns-then-not-contains-clause-showing : goal.returns-then-not-contains-cl
 returns-then-not-contains-clause-showing g c =
     let marks = c.args.marks.now in
     rw (c.in_ok-push_list.ensures.ok)
-    (showing_not c.args.basis.now.ontology.now c.args.basis.now.saturation.now marks c.args.derivation.now c.args.shown.now
+    (showing_not c.args.basis.now.closed.now.ontology c.args.basis.now.closed.now.saturation marks c.args.derivation.now c.args.shown.now
     (subst (λ k. IsMarked marks k → ⊥) c.requires.next (not_marked marks c.args.fact.0 (sym c.contains.ensures ∙ c.if-not-contains.true))) c.requires.showing)
 
 pub show-requires-clause-older : goal.show-requires-clause-older
 show-requires-clause-older g c =
     let marked = is_marked c.args.marks.now c.args.fact.0 (sym c.contains.ensures ∙ c.if-not-contains.false) in
-    older_shown c.args.basis.now.ontology.now c.args.basis.now.saturation.now c.args.marks.now c.args.derivation.now c.args.shown.now c.args.fact.0
-    c.requires.ready.saturated c.requires.ready.closed marked c.requires.next (omega (arith, c.requires.there, c.requires.ready.within)) c.requires.showing
+    older_shown c.args.basis.now.closed.now.ontology c.args.basis.now.closed.now.saturation c.args.marks.now c.args.derivation.now c.args.shown.now c.args.fact.0
+    c.well_formed-2.ensures.saturated c.requires.ready.closed marked c.requires.next (omega (arith, c.requires.there, c.requires.ready.within)) c.requires.showing
 
 pub returns-clause-showing : goal.returns-clause-showing
 returns-clause-showing g c =
-    let o = c.args.basis.now.ontology.now in
-    let s = c.args.basis.now.saturation.now in
+    let o = c.args.basis.now.closed.now.ontology in
+    let s = c.args.basis.now.closed.now.saturation in
     let marks = c.args.marks.now in
     let shown = c.args.shown.now in
     let next = c.requires.next in
@@ -30,7 +30,7 @@ returns-clause-showing g c =
     let fact = slice_get_there s.state.facts c.args.fact.0 (omega (arith, c.requires.there, c.requires.ready.within)) in
     let numbers = c.in_ok-numbers.numbers.items in
     let more = showing_more o s marks c.args.derivation.now c.show.new.derivation shown numbers fact.0
-    (subst (λ k. slice_get s.state.facts k ≡ Some fact.0) next fact.1) (subst (IsMarked marks) next marked) c.requires.ready.saturated.asked c.requires.ready.called_for
+    (subst (λ k. slice_get s.state.facts k ≡ Some fact.0) next fact.1) (subst (IsMarked marks) next marked) c.well_formed-2.ensures.saturated.asked c.requires.ready.called_for
     c.requires.showing c.in_ok-numbers.ensures.derivation c.in_ok-numbers.ensures.longer (c.in_ok-numbers.ensures.shown fact.0 fact.1)
     (subst (λ k. EachIsUsed s shown k c.args.derivation.now c.show.new.derivation numbers) next c.in_ok-numbers.ensures.used) in
     rw (c.in_ok-push_list-2.ensures.ok, c.as_slice.ensures) more

@@ -6,9 +6,17 @@ pub returns-then-end-max_facts-clause-progress : goal.returns-then-end-max_facts
 returns-then-end-max_facts-clause-progress g c = progress_behind c.args.told _ _ _ c.loop-end.invariant.progress c.tell_drawn.ensures
 
 pub loop-end-preserved : goal.loop-end-preserved
-loop-end-preserved g c = record {
-  normal = c.resume-ended.ensures.resumed.normal ∙ c.loop-end.invariant.normal;
-  sound = λ o sound. (c.resume-ended.ensures.saturates o (c.loop-end.invariant.sound o sound)).sound;
-  within = search rules;
-  progress = progress_behind c.args.told _ _ _ c.loop-end.invariant.progress c.tell_drawn.ensures;
-}
+loop-end-preserved g c =
+    let first = c.loop-end.invariant.others in
+    let second = c.resume-ended.ensures.others in
+    record {
+      ontology = c.resume-ended.ensures.ontology ∙ c.loop-end.invariant.ontology;
+      others = record {
+        prefixes = second.prefixes ∙ first.prefixes;
+        bytes = second.bytes ∙ first.bytes;
+        most_bytes = second.most_bytes ∙ first.most_bytes;
+        version = second.version ∙ first.version;
+      };
+      within = search rules;
+      progress = progress_behind c.args.told _ _ _ c.loop-end.invariant.progress c.tell_drawn.ensures;
+    }

@@ -1,18 +1,23 @@
+use Rattle.std.proofs.Common.{sym, subst}
+use Rattle.std.proofs.lemmas.Result.{IfOk-weaker}
+use Rattle.axioms.specs.Ontology.{Ontology}
 use Rattle.countermodel.specs.Leading.{IsElementBy}
+use Rattle.countermodel.specs.Sets.{IsWithin}
 use Rattle.countermodel.proofs.Facts.{satisfiable_within}
 use Rattle.countermodel.proofs.Leading.{leads_by}
 use Rattle.countermodel.proofs.Listing.{are_satisfiable}
-use Rattle.std.proofs.lemmas.Result.{IfOk-weaker}
 use Rattle.countermodel.proofs.elements.Elements.by.Goals as goal
 
 pub among-requires-clause-within : goal.among-requires-clause-within
 among-requires-clause-within c = λ x admitted.
-    satisfiable_within c.args.ontology.now c.args.saturation.now.normal.asked c.well_formed-2.ensures x ((c.in_ok-satisfiable.ensures x).0 admitted)
+    let s = c.args.closed.now.saturation in
+    subst (λ (o : Ontology). IsWithin o x) (sym c.ontology-ontology.ensures)
+    (satisfiable_within c.args.closed.now.ontology s.normal.asked c.well_formed-2.ensures.ontology x ((c.in_ok-satisfiable.ensures x).0 admitted))
 
 pub returns : goal.returns
 returns c =
-    let o = c.args.ontology.now in
-    let asked = c.args.saturation.now.normal.asked in
+    let o = c.args.closed.now.ontology in
+    let asked = c.args.closed.now.saturation.normal.asked in
     let s = c.in_ok-satisfiable.satisfiable in
     let is = c.in_ok-satisfiable.ensures in
     let leads = leads_by o asked c.args.groups.now c.requires.groups in

@@ -3,7 +3,7 @@ use Rattle.std.proofs.lemmas.Option.{slice_get-get_or}
 use Rattle.std.specs.Option.{option_map}
 use Rattle.axioms.specs.View.{at_number}
 use Rattle.certificate.specs.Certificate.{Line}
-use Rattle.certificate.specs.LineText.{source_of}
+use Rattle.certificate.specs.Certificate.{source_of}
 use Rattle.certificate.specs.View.{conclusion_of, line_of}
 use Rattle.cert_check.proofs.Checked.{at_there}
 use Rattle.explain.proofs.sink.LineListLineSink.source.Goals as goal

@@ -1,10 +1,10 @@
 use Rattle.std.proofs.Common.{subst}
 use Rattle.answers.specs.Names.{groups_in}
+use Rattle.engine.specs.Closed.{Closed}
 use Rattle.session.specs.Answers.{AreParents}
-use Rattle.session.specs.Sessions.{Opened}
 use Rattle.session.proofs.session.Session.parents.Goals as goal
 
 pub returns-in-Ok-Some-clause-exact : goal.returns-in-Ok-Some-clause-exact
 returns-in-Ok-Some-clause-exact c =
-    let P : Opened → Type 0 = λ o. AreParents o.ontology c.args.class.now (groups_in c.in-Ok-Some.groups.items) in
-    subst P c.self.view_is (rw (c.in-Ok-Some.field-0-is) at c.in-Ok-Some.ensures.exact)
+    let P : Closed → Type 0 = λ i. AreParents i.ontology c.args.class.now (groups_in c.in-Ok-Some.groups.items) in
+    subst P c.in-Some.ensures.some (rw (c.in-Ok-Some.field-0-is) at c.in-Ok-Some.ensures.exact)

@@ -5,7 +5,6 @@ pub invariant_of-self : goal.invariant_of-self
 invariant_of-self c = record {
   sound = (c.resume.ensures.saturates c.self.inside.ontology c.self.invariant.sound).sound;
   unasked = ap (λ n. n.asked) c.resume.ensures.resumed.normal ∙ c.self.invariant.unasked;
-  can_grow = c.resume.ensures.resumed.can_grow ∙ c.self.invariant.can_grow;
   taken = c.self.invariant.taken;
   within = c.self.invariant.within;
 }

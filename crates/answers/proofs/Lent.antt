@@ -1,0 +1,19 @@
+-- What holds of what is lent holds of what lends it.
+use Rattle.std.proofs.Common.{◌≡◌, List, ap, ◌∙◌, subst}
+use Rattle.axioms.specs.Ontology.{Ontology}
+use Rattle.axioms.specs.WellFormedness.{IsOntology}
+use Rattle.engine.specs.Closed.{Closed}
+use Rattle.engine.specs.Saturations.{IsSaturated}
+use Rattle.facts.specs.declared.contexts.Fact.{Fact}
+
+pub whole_ontology : {a b : Closed} → a ≡ b → IsOntology a.ontology → IsOntology b.ontology
+whole_ontology is w = subst (λ (k : Closed). IsOntology k.ontology) is w
+
+pub whole_saturation : {a b : Closed} → a ≡ b → IsSaturated a.ontology a.saturation → IsSaturated b.ontology b.saturation
+whole_saturation is h = subst (λ (k : Closed). IsSaturated k.ontology k.saturation) is h
+
+pub same_ontology : {a b : Closed} {o : Ontology} → o ≡ a.ontology → a ≡ b → o ≡ b.ontology
+same_ontology of is = of ∙ ap (λ (k : Closed). k.ontology) is
+
+pub same_facts : {a b : Closed} {facts : List Fact} → facts ≡ a.saturation.state.facts → a ≡ b → facts ≡ b.saturation.state.facts
+same_facts of is = of ∙ ap (λ (k : Closed). k.saturation.state.facts) is
