@@ -1,0 +1,15 @@
+pub mod Spelled
+pub mod Trees
+pub mod Texts
+pub mod Meant
+pub mod Stated
+pub mod Bytes
+pub mod Faultless
+pub mod SoundStatements
+pub mod Read
+pub mod Sample
+pub mod Names
+pub mod Said
+pub mod Sounding
+pub mod Rows
+pub mod Sayable

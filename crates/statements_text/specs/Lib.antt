@@ -1,0 +1,5 @@
+pub mod Texts
+pub mod Terms
+pub mod TreeTerms
+pub mod Sound
+pub mod Theorems
