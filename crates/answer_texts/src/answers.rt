@@ -98,31 +98,6 @@ pub fn reached_refutation_bytes(
     Ok(out)
 }
 
-/// Writes the text of a refutation: an interpretation that was made for the ontology, and one of its elements.
-///
-/// `Io` comes only where the sink failed in this call. After `Memory` it did not fail and has taken nothing. After either
-/// it has taken a prefix of the text.
-pub fn write_refutation<S: Sink>(
-    alloc: Global,
-    ontology: &Ontology,
-    interpretation: &Interpretation,
-    element: usize,
-    sink: &mut S,
-) -> Result<(), WriteFault>
-    requires { IsMadeFor ontology.now.names interpretation.now }
-    ensures ok { OnOk result (Appends (S.taken sink.old) (S.taken sink.new) (refutation.refutation_text ontology.now.names interpretation.now element)) }
-    ensures begun { AppendsPrefix (S.taken sink.old) (S.taken sink.new) (refutation.refutation_text ontology.now.names interpretation.now element) }
-    ensures io { IsErrOf result WriteFault.Io → HasFailed (S.failures sink.old) (S.failures sink.new) }
-    ensures untouched { IsErrOf result WriteFault.Memory → Keeps (S.taken sink.old) (S.taken sink.new) }
-    ensures untried { IsErrOf result WriteFault.Memory → S.failures sink.new ≡ S.failures sink.old }
-    ensures unfailed { OnOk result (S.failures sink.new ≡ S.failures sink.old) }
-    ensures count { S.failures sink.old ≤ S.failures sink.new }
-{
-    let text = refutation_bytes(alloc, ontology, interpretation, element)?;
-    write_all(sink, &text)?;
-    Ok(())
-}
-
 /// The lines of a derivation as a DOT document: a node for each line, and an edge to it from each premise, in memory.
 ///
 /// # Errors
@@ -141,30 +116,6 @@ pub fn proof_graph_bytes(
     graph_of_proof::push_graph(alloc, &mut out, ontology, lines)?;
     out.extend_from_slice(b"}\n")?;
     Ok(out)
-}
-
-/// Writes the lines of a derivation as a DOT document: a node for each line, and an edge to it from each premise.
-///
-/// `Io` comes only where the sink failed in this call. After `Memory` it did not fail and has taken nothing. After either
-/// it has taken a prefix of the text.
-pub fn write_proof_graph<S: Sink>(
-    alloc: Global,
-    ontology: &Ontology,
-    lines: &[Line],
-    sink: &mut S,
-) -> Result<(), WriteFault>
-    requires { All (IsLineOf ontology.now) (lines_of lines.now) }
-    ensures ok { OnOk result (Appends (S.taken sink.old) (S.taken sink.new) (graphs.proof_graph ontology.now (lines_of lines.now))) }
-    ensures begun { AppendsPrefix (S.taken sink.old) (S.taken sink.new) (graphs.proof_graph ontology.now (lines_of lines.now)) }
-    ensures io { IsErrOf result WriteFault.Io → HasFailed (S.failures sink.old) (S.failures sink.new) }
-    ensures untouched { IsErrOf result WriteFault.Memory → Keeps (S.taken sink.old) (S.taken sink.new) }
-    ensures untried { IsErrOf result WriteFault.Memory → S.failures sink.new ≡ S.failures sink.old }
-    ensures unfailed { OnOk result (S.failures sink.new ≡ S.failures sink.old) }
-    ensures count { S.failures sink.old ≤ S.failures sink.new }
-{
-    let text = proof_graph_bytes(alloc, ontology, lines)?;
-    write_all(sink, &text)?;
-    Ok(())
 }
 
 /// A refutation as a DOT document: a node for each element, the refuting one with two outlines, and an edge for each pair, in memory.
@@ -205,29 +156,4 @@ pub fn reached_refutation_graph_bytes(
     let mut out = Vec::new(alloc);
     graph_of_refutation::push_reached(alloc, &mut out, ontology, interpretation, &found, element)?;
     Ok(out)
-}
-
-/// Writes a refutation as a DOT document: a node for each element, the refuting one with two outlines, and an edge for each pair.
-///
-/// `Io` comes only where the sink failed in this call. After `Memory` it did not fail and has taken nothing. After either
-/// it has taken a prefix of the text.
-pub fn write_refutation_graph<S: Sink>(
-    alloc: Global,
-    ontology: &Ontology,
-    interpretation: &Interpretation,
-    element: usize,
-    sink: &mut S,
-) -> Result<(), WriteFault>
-    requires { IsMadeFor ontology.now.names interpretation.now }
-    ensures ok { OnOk result (Appends (S.taken sink.old) (S.taken sink.new) (graphs.refutation_graph ontology.now.names interpretation.now element)) }
-    ensures begun { AppendsPrefix (S.taken sink.old) (S.taken sink.new) (graphs.refutation_graph ontology.now.names interpretation.now element) }
-    ensures io { IsErrOf result WriteFault.Io → HasFailed (S.failures sink.old) (S.failures sink.new) }
-    ensures untouched { IsErrOf result WriteFault.Memory → Keeps (S.taken sink.old) (S.taken sink.new) }
-    ensures untried { IsErrOf result WriteFault.Memory → S.failures sink.new ≡ S.failures sink.old }
-    ensures unfailed { OnOk result (S.failures sink.new ≡ S.failures sink.old) }
-    ensures count { S.failures sink.old ≤ S.failures sink.new }
-{
-    let text = refutation_graph_bytes(alloc, ontology, interpretation, element)?;
-    write_all(sink, &text)?;
-    Ok(())
 }

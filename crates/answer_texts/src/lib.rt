@@ -15,7 +15,6 @@ mod refutation;
 
 pub use answers::{
     proof_bytes, proof_graph_bytes, reached_refutation_bytes, reached_refutation_graph_bytes,
-    refutation_bytes, refutation_graph_bytes, write_proof, write_proof_graph, write_refutation,
-    write_refutation_graph,
+    refutation_bytes, refutation_graph_bytes, write_proof,
 };
 pub use axiom::axiom_bytes;

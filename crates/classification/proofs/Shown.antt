@@ -17,6 +17,7 @@ use Rattle.exactness.proofs.Exact.{contradiction_sound}
 use Rattle.interpretation_spec.specs.Interpretation.{IsContradictory}
 use Rattle.taxonomy.specs.Outcome.{IsMadeFor, taxonomy_of, instances_of}
 use Rattle.taxonomy.specs.Relation.{is_listed, lies_below}
+use Rattle.explain.proofs.Aiming.{has_last}
 use Rattle.taxonomy.specs.declared.outcome.Outcome.{Outcome}
 use Rattle.taxonomy.specs.declared.outcome.Outcome.TheVariants.{Consistent, Inconsistent}
 use Rattle.classification.specs.Classifications.{AreTextsOf}
@@ -73,5 +74,5 @@ acceptable o w consistent c taxonomy instances text text_of derivation shown tex
         → MatchOption l (IsContradictionShown taxonomy instances c.lines) (ShowsClosure o taxonomy instances c.lines)
     shows true (Some l) shown texts = record { facts = shown.0; interpretation = shown.1; texts = texts }
     shows true None shown texts = absurd shown
-    shows false None shown texts = record { subject = shown.0; top = shown.1; line = shown.2; taxonomy_is = texts.0; instances_is = texts.1 }
+    shows false None shown texts = record { subject = shown.0; top = shown.1; line = has_last c.lines _ shown.2.ends; taxonomy_is = texts.0; instances_is = texts.1 }
     shows false (Some l) shown texts = absurd shown

@@ -9,7 +9,7 @@ use Rattle.certificate.specs.Writability.{IsTextOf}
 use Rattle.classification.specs.Lists.{IsTaxonomyOf, AreTypesOf}
 use Rattle.exactness.specs.Acceptance.{IsListedFor}
 use Rattle.exactness.specs.Theorems.{HaveFacts}
-use Rattle.explain.specs.Needs.{ShowsContradiction}
+use Rattle.explain.specs.Needs.{DerivesContradiction}
 use Rattle.taxonomy.specs.declared.outcome.Outcome.{Outcome}
 use Rattle.taxonomy.specs.declared.outcome.Outcome.TheVariants.{Consistent, Inconsistent}
 
@@ -19,10 +19,10 @@ IsOutcomeOf o true (Consistent taxonomy types) = IsTaxonomyOf o taxonomy × AreT
 IsOutcomeOf o false Inconsistent = Unit {0}
 IsOutcomeOf o _ _ = ⊥
 
--- the lines have the closure's facts, and its interpretation is listed; or the lines have the contradiction
+-- the lines have the closure's facts, and its interpretation is listed; or the lines derive a contradiction
 abbrev pub AreShown : Ontology → Bool → List Line → Option Listed → Type 0
 AreShown o true lines (Some listed) = HaveFacts o [] lines × IsListedFor o [] listed
-AreShown o false lines None = ShowsContradiction lines
+AreShown o false lines None = DerivesContradiction o lines
 AreShown o _ lines _ = ⊥
 
 -- the text in the format is that of a certificate of a derivation that shows it

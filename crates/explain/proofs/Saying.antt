@@ -1,10 +1,9 @@
 -- What the lines of a wanted fact say.
-use Rattle.std.proofs.Common.{◌≡◌, ℕ, zero, suc, ◌<◌, inl, inr, List, [], ◌∷◌, length, slice_get, Some, All, refl, sym, ap, ap₂, ◌∙◌, subst}
+use Rattle.std.proofs.Common.{◌≡◌, ◌↔◌, ℕ, zero, suc, ◌<◌, ◌≤◌, inl, inr, Bool, true, List, [], ◌∷◌, length, slice_get, Some, All, Contains, arith, refl, sym, ap, ap₂, ◌∙◌, subst}
 use Rattle.std.proofs.lemmas.List.Elements.{All-contains}
-use Rattle.std.proofs.lemmas.Option.{none-some}
-use Rattle.axioms.specs.Ontology.{Ontology, IsClassAt, thing, nothing}
+use Rattle.std.proofs.lemmas.Option.{none-some, slice_get_within}
+use Rattle.axioms.specs.Ontology.{Ontology, thing, nothing}
 use Rattle.axioms.specs.View.{at_number}
-use Rattle.axioms.specs.WellFormedness.{IsOntology}
 use Rattle.axioms.specs.declared.ids.ExprId.{ExprId}
 use Rattle.cert_check.specs.Acceptance.{IsTop}
 use Rattle.cert_check.specs.Derivation.{at_numbers, HasLine}
@@ -18,14 +17,17 @@ use Rattle.exactness.proofs.Derivable.{conclusions, at_conclusion, prepended_lis
 use Rattle.exactness.specs.Derivability.{subject_of}
 use Rattle.engine.specs.Saturations.{Saturated, IsSaturated}
 use Rattle.exactness.specs.Theorems.{HaveFacts}
-use Rattle.explain.specs.Marks.{IsClassOrAsked, IsNamedOrAsked, IsWantedFact, IsTopContext, IsContradictoryFact, IsShown}
-use Rattle.explain.specs.Needs.{IsWanted, ShowsContradiction}
+use Rattle.explain.specs.Marks.{IsClassOrAsked, IsMarked, IsNamedOrAsked, IsWantedFact, IsTopContext, IsContradictoryFact, ShowMarked}
+use Rattle.explain.specs.Needs.{Derives, DerivesContradiction, EachIsNeeded, IsWanted}
 use Rattle.explain.specs.LinesOfFacts.{AreShowing, IsShownBy}
 use Rattle.facts.specs.declared.contexts.Context as code_context
 use Rattle.facts.specs.declared.contexts.Context.TheVariants as contexts
 use Rattle.facts.specs.declared.contexts.Fact as code
 use Rattle.facts.specs.declared.contexts.Fact.TheVariants as facts
-use Rattle.lemmas.proofs.Members.{slice_get-from_Contains}
+use Rattle.lemmas.proofs.Choices.{one_value}
+use Rattle.lemmas.proofs.Members.{Contains-one, slice_get-from_Contains}
+use Rattle.lemmas.proofs.Places.{slice_get_there}
+use Rattle.number_sets.specs.Pieces.{list_at}
 use Rattle.normal_forms.specs.Forms.{Whole}
 use Rattle.normal_forms.specs.declared.forms.Class2.TheVariants as classes
 use Rattle.normalise.specs.Problem.{prefixes_of}
@@ -85,9 +87,9 @@ line_of_fact b lines numbers e x s =
     let line = at_conclusion lines one.0 (Sub (subject_of (context_of x)) e.0) one.2 in
     record { place = one.0; number_is = one.1; line = line.0; there = line.1; says = line.2 }
 
-pub has_line : (b : Prefixes) (lines : List Line) (e : ExprId) (x : code_context.Context) → IsShown b lines (facts.In (classes.Expr e) x) → HasLine lines (Sub (subject_of (context_of x)) e.0)
-has_line b lines e x s =
-    let l = line_of_fact b lines s.0 e x s.1 in
+has_line : (b : Prefixes) (lines : List Line) (numbers : List ℕ) (e : ExprId) (x : code_context.Context) → AreShowing b lines numbers (facts.In (classes.Expr e) x) → HasLine lines (Sub (subject_of (context_of x)) e.0)
+has_line b lines numbers e x s =
+    let l = line_of_fact b lines numbers e x s in
     (l.place, l.line, l.there, l.says)
 
 -- ---- wanted facts
@@ -114,14 +116,14 @@ is_named_or_asked o asked (contexts.Expr e) h = is_class_or_asked h
 is_named_or_asked o asked (contexts.Individual a) h = is_individual h
 
 -- the line of a wanted fact says what is wanted
-pub record IsWantedLine (o : Ontology) (asked : List ℕ) (lines : List Line) (numbers : List ℕ) : Type 0 where
+record IsWantedLine (o : Ontology) (asked : List ℕ) (lines : List Line) (numbers : List ℕ) : Type 0 where
   pub place : ℕ
   pub number_is : numbers ≡ suc place ∷ []
   pub line : Line
   pub there : slice_get lines place ≡ Some line
   pub wanted : IsWanted o asked line.conclusion
 
-pub wanted_line : (o : Ontology) (asked : List ℕ) (b : Prefixes) (lines : List Line) (numbers : List ℕ) (f : code.Fact) → AreAsked o asked → IsWantedFact o asked f → AreShowing b lines numbers f → IsWantedLine o asked lines numbers
+wanted_line : (o : Ontology) (asked : List ℕ) (b : Prefixes) (lines : List Line) (numbers : List ℕ) (f : code.Fact) → AreAsked o asked → IsWantedFact o asked f → AreShowing b lines numbers f → IsWantedLine o asked lines numbers
 wanted_line o asked b lines numbers (facts.In (classes.Expr e) x) among w s =
     let l = line_of_fact b lines numbers e x s in
     record {
@@ -135,7 +137,7 @@ wanted_line o asked b lines numbers (facts.In (classes.Partial n) x) among w s =
 wanted_line o asked b lines numbers (facts.Edge x r y) among w s = absurd w
 
 -- that a root is in a class is wanted, where the class is a root as well
-pub root_wanted : (o : Ontology) (asked : List ℕ) (x : code_context.Context) (e : ExprId) → IsRoot o asked (context_of x) → IsRoot o asked (Expression e.0) → IsWantedFact o asked (facts.In (classes.Expr e) x)
+root_wanted : (o : Ontology) (asked : List ℕ) (x : code_context.Context) (e : ExprId) → IsRoot o asked (context_of x) → IsRoot o asked (Expression e.0) → IsWantedFact o asked (facts.In (classes.Expr e) x)
 root_wanted o asked x e root class = (is_class_or_asked class, is_named_or_asked o asked x root)
 
 -- none of the facts says so, and so it is no fact of the closure
@@ -146,34 +148,44 @@ no_fact o s x e saturated never fact =
 
 -- ---- what all lines say
 
--- lines that show each wanted fact have the facts of the closure
-pub have_facts : (o : Ontology) (s : Saturated) (lines : List Line) → IsSaturated o s → ((n : ℕ) (f : code.Fact) → IsWantedFact o s.normal.asked f → slice_get s.state.facts n ≡ Some f → IsShown (prefixes_of s.normal) lines f) → HaveFacts o s.normal.asked lines
-have_facts o s lines saturated shown x e root class fact =
-    let f = saturated.facts.all (In (Whole e) x) fact in
-    let g = whole_saying f.2 in
-    let at = slice_get-from_Contains s.state.facts f.0 f.1 in
-    let wanted = root_wanted o s.normal.asked g.1 g.0 (subst (IsRoot o s.normal.asked) (sym g.4) root) (subst (λ c. IsRoot o s.normal.asked (Expression c)) (sym g.3) class) in
-    let line = has_line (prefixes_of s.normal) lines g.0 g.1 (shown at.0 (facts.In (classes.Expr g.0) g.1) wanted (at.1 ∙ ap Some g.2)) in
-    subst (λ y. HasLine lines (Sub (subject_of y) e)) g.4 (subst (λ c. HasLine lines (Sub (subject_of (context_of g.1)) c)) g.3 line)
+-- lines that show the wanted facts
+module _ (o : Ontology) (s : Saturated) (marks : List Bool) (lines : List Line) (saturated : IsSaturated o s)
+    (exact : (n : ℕ) (f : code.Fact) → slice_get s.state.facts n ≡ Some f → IsMarked marks n ↔ IsWantedFact o s.normal.asked f) (h : ShowMarked s marks (IsMarked marks) lines) where
+  pub have_facts : HaveFacts o s.normal.asked lines
+  have_facts x e root class fact =
+      let f = saturated.facts.all (In (Whole e) x) fact in
+      let g = whole_saying f.2 in
+      let found = slice_get-from_Contains s.state.facts f.0 f.1 in
+      let at = found.1 ∙ ap Some g.2 in
+      let wanted = root_wanted o s.normal.asked g.1 g.0 (subst (IsRoot o s.normal.asked) (sym g.4) root) (subst (λ c. IsRoot o s.normal.asked (Expression c)) (sym g.3) class) in
+      let marked = (exact found.0 (facts.In (classes.Expr g.0) g.1) at).1 wanted in
+      let line = has_line (prefixes_of s.normal) lines (list_at h.numbers found.0) g.0 g.1 (h.each found.0 (facts.In (classes.Expr g.0) g.1) marked at) in
+      subst (λ y. HasLine lines (Sub (subject_of y) e)) g.4 (subst (λ c. HasLine lines (Sub (subject_of (context_of g.1)) c)) g.3 line)
+
+  pub each_needed : length marks ≤ length s.state.facts → EachIsNeeded o s.normal.asked lines
+  each_needed within n line at = elim (h.needed n (slice_get_within lines n line at)) [ inl p ↦ inr p | inr (m, marked, c) ↦ inl (wanted m marked c) ]
+    where
+      wanted : (m : ℕ) → IsMarked marks m → Contains (list_at h.numbers m) (suc n) → IsWanted o s.normal.asked line.conclusion
+      wanted m marked c =
+          let f = slice_get_there s.state.facts m (omega (arith, within, slice_get_within marks m true marked)) in
+          let l = wanted_line o s.normal.asked (prefixes_of s.normal) lines (list_at h.numbers m) f.0 saturated.asked ((exact m f.0 f.1).0 marked) (h.each m f.0 marked f.1) in
+          let number : suc l.place ≡ suc n = Contains-one (suc l.place) (suc n) (subst (λ ns. Contains ns (suc n)) l.number_is c) in
+          let same : l.line ≡ line = one_value (slice_get lines n) l.line line (subst (λ k. slice_get lines k ≡ Some l.line) (omega (arith, number)) l.there) at in
+          subst (λ (x : Line). IsWanted o s.normal.asked x.conclusion) same l.wanted
 
 -- ---- contradictions
-
--- owl:Thing and owl:Nothing are named classes
-pub contradictory_wanted : (o : Ontology) (asked : List ℕ) (f : code.Fact) → IsOntology o → IsContradictoryFact o f → IsWantedFact o asked f
-contradictory_wanted o asked (facts.In (classes.Expr e) (contexts.Expr d)) kept h = (inl (1, subst (IsClassAt o 1) (sym h.0) kept.nothing_node), inl (0, subst (IsClassAt o 0) (sym h.1) kept.thing_node))
-contradictory_wanted o asked (facts.In (classes.Expr e) (contexts.Individual a)) kept h = (inl (1, subst (IsClassAt o 1) (sym h.0) kept.nothing_node), h.1)
-contradictory_wanted o asked (facts.In (classes.Partial n) x) kept h = absurd h
-contradictory_wanted o asked (facts.Edge x r y) kept h = absurd h
 
 top_of : (o : Ontology) (x : code_context.Context) → IsTopContext o x → IsTop (subject_of (context_of x))
 top_of o (contexts.Expr e) h = subst (λ d. IsTop (subjects.Expression d)) (sym h) IsTop.of_thing
 top_of o (contexts.Individual a) h = IsTop.of_individual
 
-pub shows_contradiction : (o : Ontology) (b : Prefixes) (lines : List Line) (f : code.Fact) → IsContradictoryFact o f → IsShown b lines f → ShowsContradiction lines
-shows_contradiction o b lines (facts.In (classes.Expr e) x) h s =
-    (subject_of (context_of x), top_of o x h.1, subst (λ c. HasLine lines (Sub (subject_of (context_of x)) c)) h.0 (has_line b lines e x s))
-shows_contradiction o b lines (facts.In (classes.Partial n) x) h s = absurd h
-shows_contradiction o b lines (facts.Edge x r y) h s = absurd h
+-- a derivation of a fact that is a contradiction
+pub derives_contradiction : (o : Ontology) (all : List code.Fact) (goal : ℕ) (lines : List Line) (f : code.Fact) → at_number all goal ≡ Some f → IsContradictoryFact o f
+    → ((e : ExprId) (x : code_context.Context) → at_number all goal ≡ Some (facts.In (classes.Expr e) x) → Derives o (Sub (subject_of (context_of x)) e.0) lines) → DerivesContradiction o lines
+derives_contradiction o all goal lines (facts.In (classes.Expr e) x) at h derives =
+    (subject_of (context_of x), top_of o x h.1, subst (λ c. Derives o (Sub (subject_of (context_of x)) c) lines) h.0 (derives e x at))
+derives_contradiction o all goal lines (facts.In (classes.Partial n) x) at h derives = absurd h
+derives_contradiction o all goal lines (facts.Edge x r y) at h derives = absurd h
 
 -- where no fact is a contradiction, there is none
 pub no_contradiction : (o : Ontology) (s : Saturated) → IsSaturated o s → All (λ f. IsContradictoryFact o f → ⊥) s.state.facts → IsConsistent o s.normal.asked

@@ -149,7 +149,7 @@ module _ (shown : List (List ℕ)) (o : Older) where
       (used_from first third (λ n. One n ⊎ Other n) (IsAmongThose shown (numbers_of o)) (numbers ++ more) (λ n h. of_two shown m.0 k.0 n (subst (λ u. IsAmongThose shown (numbers_of u) n) e h))
       (used_beside first second third One Other numbers more g earlier later))
 
-taken_whole : (xs : List ℕ) → take (length xs) xs ≡ xs
+pub taken_whole : {X : Type 0} (xs : List X) → take (length xs) xs ≡ xs
 taken_whole [] = refl
 taken_whole (x ∷ xs) = ap (λ ys. x ∷ ys) (taken_whole xs)
 

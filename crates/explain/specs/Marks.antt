@@ -1,12 +1,11 @@
 -- Which facts are to have lines.
-use Rattle.std.specs.Prelude.{◌≡◌, ℕ, ◌<◌, ◌⊎◌, List, All, Bool, true, length, slice_get, Option, Some, MatchOption}
+use Rattle.std.specs.Prelude.{◌≡◌, ℕ, suc, ◌<◌, ◌⊎◌, List, All, Bool, true, length, slice_get, Option, Some, MatchOption}
 use Rattle.std.specs.List.{Contains}
 use Rattle.axioms.specs.Ontology.{Ontology, IsClassAt, thing, nothing}
 use Rattle.axioms.specs.View.{at_number}
 use Rattle.certificate.specs.Certificate.{Line}
-use Rattle.closure.specs.Denotations.{Prefixes}
 use Rattle.engine.specs.Saturations.{Saturated}
-use Rattle.explain.specs.Uses.{RestsOn}
+use Rattle.explain.specs.Uses.{IsPremise, RestsOn}
 use Rattle.explain.specs.LinesOfFacts.{AreShowing}
 use Rattle.facts.specs.declared.contexts.Context.{Context}
 use Rattle.facts.specs.declared.contexts.Context.TheVariants as contexts
@@ -14,6 +13,7 @@ use Rattle.facts.specs.declared.contexts.Fact.{Fact}
 use Rattle.facts.specs.declared.contexts.Fact.TheVariants as facts
 use Rattle.normal_forms.specs.declared.forms.Class2.TheVariants as classes
 use Rattle.normalise.specs.Problem.{prefixes_of}
+use Rattle.number_sets.specs.Pieces.{list_at}
 
 -- ---- facts that are wanted
 
@@ -69,14 +69,13 @@ AreClosed s marks = (n m : ℕ) → IsMarked marks n → RestsOn s n m → IsMar
 abbrev pub ServesLater : Saturated → List Bool → ℕ → Type 0
 ServesLater s marks n = (m : ℕ) × (n < m) × IsMarked marks m × RestsOn s m n
 
--- each marked fact is wanted or serves a later one
-abbrev pub EachIsCalledFor : Ontology → Saturated → List Bool → Type 0
-EachIsCalledFor o s marks = (n : ℕ) (f : Fact) → slice_get s.state.facts n ≡ Some f → IsMarked marks n → IsWantedFact o s.normal.asked f ⊎ ServesLater s marks n
+-- the fact is marked and serves no later one that is marked
+abbrev pub IsLastMarked : Saturated → List Bool → ℕ → Type 0
+IsLastMarked s marks n = IsMarked marks n × (ServesLater s marks n → ⊥)
 
--- some of the lines show the fact
-abbrev pub IsShown : Prefixes → List Line → Fact → Type 0
-IsShown b lines f = (numbers : List ℕ) × AreShowing b lines numbers f
-
--- some of the lines show each marked fact
-abbrev pub ShowsMarked : Saturated → List Bool → List Line → Type 0
-ShowsMarked s marks lines = (n : ℕ) (f : Fact) → IsMarked marks n → slice_get s.state.facts n ≡ Some f → IsShown (prefixes_of s.normal) lines f
+-- lines show each marked fact, and each line is a premise of a later one or shows a marked fact that is so
+pub record ShowMarked (s : Saturated) (marks : List Bool) (P : ℕ → Type 0) (lines : List Line) : Type 0 where
+  -- of each fact the numbers of the lines that show it
+  pub numbers : List (List ℕ)
+  pub each : (n : ℕ) (f : Fact) → IsMarked marks n → slice_get s.state.facts n ≡ Some f → AreShowing (prefixes_of s.normal) lines (list_at numbers n) f
+  pub needed : (n : ℕ) → n < length lines → IsPremise lines n ⊎ ((m : ℕ) × P m × Contains (list_at numbers m) (suc n))

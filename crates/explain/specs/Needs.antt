@@ -1,11 +1,14 @@
 -- Derivations without a line that nothing needs.
 use Rattle.std.specs.Prelude.{◌≡◌, ℕ, ◌⊎◌, List, slice_get, Some}
+use Rattle.std.specs.List.{All}
 use Rattle.axioms.specs.Ontology.{Ontology, nothing}
 use Rattle.certificate.specs.Certificate.{Conclusion, Subject, Sub, Line}
 use Rattle.cert_check.specs.Acceptance.{IsTop}
-use Rattle.cert_check.specs.Derivation.{HasLine}
+use Rattle.cert_check.specs.Derivation.{IsDerivation}
+use Rattle.certificate.specs.Writability.{IsLineOf}
 use Rattle.closure.specs.Closure.{Context, Expression, IsRoot}
 use Rattle.exactness.specs.Derivability.{subject_of}
+use Rattle.exactness.specs.Trimming.{EndsWith, EachServes}
 use Rattle.explain.specs.Uses.{IsPremise}
 
 -- the conclusion puts a named class, an individual or an expression that is asked about below a named class or such an expression
@@ -20,6 +23,14 @@ pub record IsWanted (o : Ontology) (asked : List ℕ) (conclusion : Conclusion) 
 abbrev pub EachIsNeeded : Ontology → List ℕ → List Line → Type 0
 EachIsNeeded o asked lines = (n : ℕ) (line : Line) → slice_get lines n ≡ Some line → IsWanted o asked line.conclusion ⊎ IsPremise lines n
 
--- all things or an individual are in owl:Nothing, as a line says
-abbrev pub ShowsContradiction : List Line → Type 0
-ShowsContradiction lines = (subject : Subject) × IsTop subject × HasLine lines (Sub subject nothing)
+-- a derivation from the axioms that ends in the conclusion, in which each other line is a premise of a later one
+pub record Derives (o : Ontology) (conclusion : Conclusion) (lines : List Line) : Type 0 where
+  pub derivation : IsDerivation o lines
+  pub ends : EndsWith lines conclusion
+  pub serves : EachServes lines
+  -- a text can be written
+  pub text : All (IsLineOf o) lines
+
+-- the lines derive that all things or an individual are in owl:Nothing
+abbrev pub DerivesContradiction : Ontology → List Line → Type 0
+DerivesContradiction o lines = (subject : Subject) × IsTop subject × Derives o (Sub subject nothing) lines

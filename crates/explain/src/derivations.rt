@@ -1,5 +1,5 @@
 //! The lines of a saturation.
-ghost use Rattle.cert_check.specs.Derivation.{HasLine, IsDerivation};
+ghost use Rattle.cert_check.specs.Derivation.{IsDerivation};
 ghost use Rattle.certificate.specs.Certificate.{Sub};
 ghost use Rattle.certificate.specs.View.{lines_of};
 ghost use Rattle.closure.specs.Closure.{Expression, In, IsFact, IsRoot};
@@ -7,9 +7,9 @@ ghost use Rattle.closure.specs.Denotations.{context_of};
 ghost use Rattle.exactness.specs.Derivability.{subject_of};
 ghost use Rattle.exactness.specs.ListedInterpretation.{IsConsistent};
 ghost use Rattle.exactness.specs.Theorems.{HaveFacts};
-ghost use Rattle.explain.specs.Needs.{EachIsNeeded, ShowsContradiction};
+ghost use Rattle.explain.specs.Needs.{Derives, DerivesContradiction, EachIsNeeded};
 ghost use Rattle.normal_forms.specs.Forms.{Whole};
-ghost use Rattle.std.specs.Prelude.{◌≡◌, [], IfOk, IfSome, MatchOption, OnOk};
+ghost use Rattle.std.specs.Prelude.{◌≡◌, [], IfOk, MatchOption, OnOk};
 
 use crate::derivation::Derivation;
 use crate::shown::{add_goal, add_lines};
@@ -51,9 +51,7 @@ fn add_contradiction<L: LineSink>(
 ) -> Result<(), Memory>
     requires contradictory { IsConsistent closed.now.ontology closed.now.saturation.normal.asked → ⊥ }
     requires none { derivation.old ≡ [] }
-    ensures derivation { OnOk result (IsDerivation closed.now.ontology derivation.new) }
-    ensures shown { OnOk result (ShowsContradiction derivation.new) }
-    ensures needed { OnOk result (EachIsNeeded closed.now.ontology closed.now.saturation.normal.asked derivation.new) }
+    ensures { OnOk result (DerivesContradiction closed.now.ontology derivation.new) }
 {
     closed.well_formed();
     let Some(goal) = first_contradiction(closed.ontology(), closed.facts()) else {
@@ -80,16 +78,14 @@ pub fn lines(closed: &Closed<'_>) -> Result<Vec<Line>, Memory>
     Ok(derivation.into_sink().into_lines())
 }
 
-/// A derivation of a contradiction, where there is one.
+/// A derivation that ends in a contradiction, where there is one; each other line is a premise of a later one.
 ///
 /// # Errors
 ///
 /// `Memory` where memory was refused.
 pub fn contradiction(closed: &Closed<'_>) -> Result<Vec<Line>, Memory>
     requires contradictory { IsConsistent closed.now.ontology closed.now.saturation.normal.asked → ⊥ }
-    ensures derivation { IfOk result (λ v. IsDerivation closed.now.ontology (lines_of v.items)) }
-    ensures shown { IfOk result (λ v. ShowsContradiction (lines_of v.items)) }
-    ensures needed { IfOk result (λ v. EachIsNeeded closed.now.ontology closed.now.saturation.normal.asked (lines_of v.items)) }
+    ensures { IfOk result (λ v. DerivesContradiction closed.now.ontology (lines_of v.items)) }
 {
     let alloc = closed.allocator();
     let mut derivation = Derivation::new(alloc, LineList::new(alloc));
@@ -97,7 +93,7 @@ pub fn contradiction(closed: &Closed<'_>) -> Result<Vec<Line>, Memory>
     Ok(derivation.into_sink().into_lines())
 }
 
-/// A derivation with a line that puts the context into the class, where that is a fact, and of what that line rests on.
+/// A derivation that ends in that the context lies in the class, where that is a fact; each other line is a premise of a later one.
 ///
 /// # Errors
 ///
@@ -109,10 +105,8 @@ pub fn lines_of(
 ) -> Result<Option<Vec<Line>>, Memory>
     requires subject { IsRoot indexed.now.ontology indexed.now.saturation.normal.asked (context_of subject) }
     requires class { IsRoot indexed.now.ontology indexed.now.saturation.normal.asked (Expression class.0) }
-    ensures derivation { IfOk result (λ found. IfSome found (λ v. IsDerivation indexed.now.ontology (lines_of v.items))) }
-    ensures shown { IfOk result (λ found. MatchOption found (IsFact indexed.now.ontology indexed.now.saturation.normal.asked (In (Whole class.0) (context_of subject)) → ⊥)
-        (λ v. HasLine (lines_of v.items) (Sub (subject_of (context_of subject)) class.0))) }
-    ensures needed { IfOk result (λ found. IfSome found (λ v. EachIsNeeded indexed.now.ontology indexed.now.saturation.normal.asked (lines_of v.items))) }
+    ensures { IfOk result (λ found. MatchOption found (IsFact indexed.now.ontology indexed.now.saturation.normal.asked (In (Whole class.0) (context_of subject)) → ⊥)
+        (λ v. Derives indexed.now.ontology (Sub (subject_of (context_of subject)) class.0) (lines_of v.items))) }
 {
     let closed = indexed.closed();
     closed.well_formed();
@@ -149,9 +143,7 @@ pub fn line_text<F: FormatType>(closed: &Closed<'_>) -> Result<LineText<F>, Memo
 /// `Memory` where memory was refused.
 pub fn contradiction_text<F: FormatType>(closed: &Closed<'_>) -> Result<LineText<F>, Memory>
     requires contradictory { IsConsistent closed.now.ontology closed.now.saturation.normal.asked → ⊥ }
-    ensures derivation { IfOk result (λ t. IsDerivation closed.now.ontology t) }
-    ensures shown { IfOk result (λ t. ShowsContradiction t) }
-    ensures needed { IfOk result (λ t. EachIsNeeded closed.now.ontology closed.now.saturation.normal.asked t) }
+    ensures { IfOk result (λ t. DerivesContradiction closed.now.ontology t) }
 {
     let alloc = closed.allocator();
     let mut derivation = Derivation::new(alloc, TextOfLines::<F>::new(alloc)?);

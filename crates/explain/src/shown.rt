@@ -1,12 +1,17 @@
 //! The lines of marked facts.
 ghost use Rattle.axioms.specs.View.{at_number};
+ghost use Rattle.axioms.specs.declared.ids.ExprId.{ExprId};
 ghost use Rattle.cert_check.specs.Derivation.{IsDerivation};
-ghost use Rattle.explain.specs.Marks.{IsMarked, IsGoal, IsShown, IsWantedFact, ShowsMarked};
-ghost use Rattle.explain.specs.Needs.{EachIsNeeded};
+ghost use Rattle.certificate.specs.Certificate.{Sub};
+ghost use Rattle.closure.specs.Denotations.{context_of};
+ghost use Rattle.exactness.specs.Derivability.{subject_of};
+ghost use Rattle.explain.specs.Marks.{IsLastMarked, IsMarked, ShowMarked};
+ghost use Rattle.explain.specs.Needs.{Derives};
 ghost use Rattle.explain.specs.LineOrder.{AreReady, IsShowing};
-ghost use Rattle.facts.specs.declared.contexts.Fact.{Fact as Fact2};
-ghost use Rattle.normalise.specs.Problem.{prefixes_of};
-ghost use Rattle.std.specs.Prelude.{◌+◌, ◌<◌, ◌≤◌, ◌≡◌, ◌^◌, [], IfOk, OnOk, Some, length, slice_get, ℕ};
+ghost use Rattle.facts.specs.declared.contexts.Context.{Context};
+ghost use Rattle.facts.specs.declared.contexts.Fact.TheVariants.{In};
+ghost use Rattle.normal_forms.specs.declared.forms.Class2.TheVariants.{Expr};
+ghost use Rattle.std.specs.Prelude.{◌+◌, ◌<◌, ◌≤◌, ◌≡◌, ◌^◌, [], IfOk, OnOk, Some, length};
 
 use crate::basis::Basis;
 use crate::derivation::Derivation;
@@ -47,7 +52,7 @@ fn show_next<L: LineSink>(
     derivation: &mut Derivation<L>,
     shown: &mut LinesByFact,
 ) -> Result<(), Memory>
-    requires ready { AreReady basis.now.closed.now.ontology basis.now.closed.now.saturation basis.now.paths.now marks.now }
+    requires ready { AreReady basis.now.closed.now.saturation basis.now.paths.now marks.now }
     requires there { fact.0 < length marks.now }
     requires next { fact.0 ≡ length shown.old }
     requires showing { IsShowing basis.now.closed.now.ontology basis.now.closed.now.saturation marks.now derivation.old shown.old }
@@ -72,7 +77,7 @@ fn show_more<L: LineSink>(
     derivation: &mut Derivation<L>,
     shown: &mut LinesByFact,
 ) -> Result<(), Memory>
-    requires ready { AreReady basis.now.closed.now.ontology basis.now.closed.now.saturation basis.now.paths.now marks.now }
+    requires ready { AreReady basis.now.closed.now.saturation basis.now.paths.now marks.now }
     requires few { length marks.now < 2 ^ 32 }
     requires more { length shown.old < length marks.now }
     requires showing { IsShowing basis.now.closed.now.ontology basis.now.closed.now.saturation marks.now derivation.old shown.old }
@@ -94,12 +99,11 @@ fn show_each<L: LineSink>(
     marks: &Row,
     derivation: &mut Derivation<L>,
 ) -> Result<(), Memory>
-    requires ready { AreReady basis.now.closed.now.ontology basis.now.closed.now.saturation basis.now.paths.now marks.now }
+    requires ready { AreReady basis.now.closed.now.saturation basis.now.paths.now marks.now }
     requires few { length marks.now < 2 ^ 32 }
     requires none { derivation.old ≡ [] }
     ensures derivation { OnOk result (IsDerivation basis.now.closed.now.ontology derivation.new) }
-    ensures shown { OnOk result (ShowsMarked basis.now.closed.now.saturation marks.now derivation.new) }
-    ensures needed { OnOk result (EachIsNeeded basis.now.closed.now.ontology basis.now.closed.now.saturation.normal.asked derivation.new) }
+    ensures shown { OnOk result (ShowMarked basis.now.closed.now.saturation marks.now (IsLastMarked basis.now.closed.now.saturation marks.now) derivation.new) }
 {
     let mut shown = LinesByFact::with_room(basis.alloc, marks.len())?;
     while shown.len() < marks.len() {
@@ -108,8 +112,8 @@ fn show_each<L: LineSink>(
     Ok(())
 }
 
-/// Adds lines that show each marked fact, which is wanted, with those of the facts that they rest on, to no lines. Of the last
-/// facts there may be no marks.
+/// Adds lines that show each marked fact, with those of the facts that they rest on, to no lines. Of the last facts there may be no
+/// marks.
 ///
 /// # Errors
 ///
@@ -120,11 +124,9 @@ pub(crate) fn add_lines<L: LineSink>(
     derivation: &mut Derivation<L>,
 ) -> Result<(), Memory>
     requires within { length marks ≤ length closed.now.saturation.state.facts }
-    requires wanted { (n : ℕ) (f : Fact2) → slice_get closed.now.saturation.state.facts n ≡ Some f → IsMarked marks n → IsWantedFact closed.now.ontology closed.now.saturation.normal.asked f }
     requires none { derivation.old ≡ [] }
     ensures derivation { OnOk result (IsDerivation closed.now.ontology derivation.new) }
-    ensures shown { OnOk result (ShowsMarked closed.now.saturation marks derivation.new) }
-    ensures needed { OnOk result (EachIsNeeded closed.now.ontology closed.now.saturation.normal.asked derivation.new) }
+    ensures shown { OnOk result (ShowMarked closed.now.saturation marks (IsMarked marks) derivation.new) }
 {
     closed.well_formed();
     mark_older(closed, &mut marks);
@@ -137,8 +139,7 @@ pub(crate) fn add_lines<L: LineSink>(
     show_each(&basis, &marks, derivation)
 }
 
-/// Adds lines that show the fact of that number, counted from 1, which is wanted, with those of the facts that it rests on, to no
-/// lines.
+/// Adds to no lines a derivation that ends in the fact of that number, counted from 1, where it puts a context into a class.
 ///
 /// # Errors
 ///
@@ -148,12 +149,13 @@ pub(crate) fn add_goal<L: LineSink>(
     goal: usize,
     derivation: &mut Derivation<L>,
 ) -> Result<(), Memory>
-    requires wanted { IsGoal (IsWantedFact closed.now.ontology closed.now.saturation.normal.asked) closed.now.saturation.state.facts goal }
+    requires counted { 0 < goal }
+    requires there { goal ≤ length closed.now.saturation.state.facts }
     requires none { derivation.old ≡ [] }
-    ensures derivation { OnOk result (IsDerivation closed.now.ontology derivation.new) }
-    ensures shown { OnOk result ((f : Fact2) → at_number closed.now.saturation.state.facts goal ≡ Some f → IsShown (prefixes_of closed.now.saturation.normal) derivation.new f) }
-    ensures needed { OnOk result (EachIsNeeded closed.now.ontology closed.now.saturation.normal.asked derivation.new) }
+    ensures { OnOk result ((class : ExprId) (x : Context) → at_number closed.now.saturation.state.facts goal ≡ Some (In (Expr class) x) →
+        Derives closed.now.ontology (Sub (subject_of (context_of x)) class.0) derivation.new) }
 {
     let marks = goal_mark(closed.allocator(), goal)?;
-    add_lines(closed, marks, derivation)
+    add_lines(closed, marks, derivation)?;
+    Ok(())
 }

@@ -1,10 +1,6 @@
 use Rattle.std.proofs.Common.{sym, subst, ◌∙◌}
-use Rattle.cert_check.specs.Derivation.{IsDerivation}
-use Rattle.explain.specs.Needs.{EachIsNeeded}
+use Rattle.explain.specs.Needs.{DerivesContradiction}
 use Rattle.explain.proofs.derivations.contradiction_text.Goals as goal
 
-pub returns-clause-derivation : goal.returns-clause-derivation
-returns-clause-derivation g c = subst (IsDerivation c.args.closed.now.ontology) (sym (c.into_text.ensures ∙ c.into_sink.ensures)) c.in_ok-add_contradiction.ensures.derivation
-
-pub returns-clause-needed : goal.returns-clause-needed
-returns-clause-needed g c = subst (EachIsNeeded c.args.closed.now.ontology c.args.closed.now.saturation.normal.asked) (sym (c.into_text.ensures ∙ c.into_sink.ensures)) c.in_ok-add_contradiction.ensures.needed
+pub returns : goal.returns
+returns g c = subst (DerivesContradiction c.args.closed.now.ontology) (sym (c.into_text.ensures ∙ c.into_sink.ensures)) c.in_ok-add_contradiction.ensures

@@ -1,42 +1,34 @@
-use Rattle.std.proofs.Common.{◌≡◌, Some, sym, subst, ◌∙◌}
+use Rattle.std.proofs.Common.{◌≡◌, ℕ, ◌≤◌, Some, length, sym, ap, subst, ◌∙◌}
 use Rattle.axioms.specs.View.{at_number}
-use Rattle.cert_check.specs.Derivation.{HasLine, IsDerivation}
+use Rattle.axioms.specs.declared.ids.ExprId.{ExprId}
 use Rattle.certificate.specs.Certificate.{Sub}
 use Rattle.closure.specs.Denotations.{context_of}
 use Rattle.exactness.specs.Derivability.{subject_of}
 use Rattle.engine.specs.Closed.{Closed}
 use Rattle.engine.specs.Saturations.{IsSaturated}
-use Rattle.explain.specs.Needs.{EachIsNeeded}
-use Rattle.facts.specs.declared.contexts.Fact.{Fact}
-use Rattle.explain.specs.Marks.{IsShown, IsWantedFact}
-use Rattle.explain.proofs.Saying.{has_line, no_fact, root_wanted}
-use Rattle.normalise.specs.Problem.{prefixes_of}
+use Rattle.explain.proofs.Aiming.{goal_within}
+use Rattle.explain.proofs.Saying.{no_fact}
+use Rattle.explain.specs.Needs.{Derives}
+use Rattle.facts.specs.declared.contexts.Context.{Context}
+use Rattle.facts.specs.declared.contexts.Fact.TheVariants.{In}
+use Rattle.normal_forms.specs.declared.forms.Class2.TheVariants.{Expr}
 use Rattle.explain.proofs.derivations.lines_of.Goals as goal
 
-pub returns-in_default-clause-shown : goal.returns-in_default-clause-shown
-returns-in_default-clause-shown c = no_fact c.args.indexed.now.ontology c.args.indexed.now.saturation c.args.subject c.args.class (subst (λ (k : Closed). IsSaturated k.ontology k.saturation) c.closed-closed.ensures c.well_formed-2.ensures.saturated) c.in_default.ensures
+pub returns-in_default : goal.returns-in_default
+returns-in_default c = no_fact c.args.indexed.now.ontology c.args.indexed.now.saturation c.args.subject c.args.class (subst (λ (k : Closed). IsSaturated k.ontology k.saturation) c.closed-closed.ensures c.well_formed-2.ensures.saturated) c.in_default.ensures
 
-pub add_goal-requires-clause-wanted : goal.add_goal-requires-clause-wanted
-add_goal-requires-clause-wanted c =
-    let (f, at, is) = c.in-Some.ensures in
-    let wanted = root_wanted c.args.indexed.now.ontology c.args.indexed.now.saturation.normal.asked c.args.subject c.args.class c.requires.subject c.requires.class in
-    rw (c.closed-closed.ensures) (f, at, subst (IsWantedFact c.args.indexed.now.ontology c.args.indexed.now.saturation.normal.asked) (sym is) wanted)
+pub add_goal-requires-clause-counted : goal.add_goal-requires-clause-counted
+add_goal-requires-clause-counted c = (goal_within _ _ c.in-Some.goal c.in-Some.ensures).0
 
-pub returns-clause-derivation : goal.returns-clause-derivation
-returns-clause-derivation c = subst (IsDerivation c.args.indexed.now.ontology) (sym (c.into_lines.ensures ∙ c.into_sink.ensures))
-    (subst (λ (k : Closed). IsDerivation k.ontology c.add_goal.new.derivation) c.closed-closed.ensures c.in_ok-add_goal.ensures.derivation)
+pub add_goal-requires-clause-there : goal.add_goal-requires-clause-there
+add_goal-requires-clause-there c =
+    subst (λ (k : Closed). c.in-Some.goal ≤ length k.saturation.state.facts) (sym c.closed-closed.ensures) (goal_within _ _ c.in-Some.goal c.in-Some.ensures).1
 
-pub returns-clause-shown : goal.returns-clause-shown
-returns-clause-shown c =
+pub returns : goal.returns
+returns c =
     let x = c.args.subject in
     let e = c.args.class in
     let (f, at, is) = c.in-Some.ensures in
-    let b = prefixes_of c.args.indexed.now.saturation.normal in
-    let lines = c.add_goal.new.derivation in
-    let shows = subst (λ (k : Closed). (h : Fact) → at_number k.saturation.state.facts c.in-Some.goal ≡ Some h → IsShown (prefixes_of k.saturation.normal) lines h) c.closed-closed.ensures c.in_ok-add_goal.ensures.shown in
-    let shown = subst (IsShown b lines) is (shows f at) in
-    subst (λ ls. HasLine ls (Sub (subject_of (context_of x)) e.0)) (sym (c.into_lines.ensures ∙ c.into_sink.ensures)) (has_line b lines e x shown)
-
-pub returns-clause-needed : goal.returns-clause-needed
-returns-clause-needed c = subst (EachIsNeeded c.args.indexed.now.ontology c.args.indexed.now.saturation.normal.asked) (sym (c.into_lines.ensures ∙ c.into_sink.ensures))
-    (subst (λ (k : Closed). EachIsNeeded k.ontology k.saturation.normal.asked c.add_goal.new.derivation) c.closed-closed.ensures c.in_ok-add_goal.ensures.needed)
+    let derives = subst (λ (k : Closed). (class : ExprId) (y : Context) → at_number k.saturation.state.facts c.in-Some.goal ≡ Some (In (Expr class) y) → Derives k.ontology (Sub (subject_of (context_of y)) class.0) c.add_goal.new.derivation)
+    c.closed-closed.ensures c.in_ok-add_goal.ensures in
+    subst (Derives c.args.indexed.now.ontology (Sub (subject_of (context_of x)) e.0)) (sym (c.into_lines.ensures ∙ c.into_sink.ensures)) (derives e x (at ∙ ap Some is))
