@@ -9,10 +9,10 @@ use Rattle.facts.specs.declared.contexts.Context.TheVariants as contexts
 use Rattle.facts.specs.declared.contexts.Fact.{Fact}
 use Rattle.indexes.specs.FactIndex.{IsIn}
 use Rattle.classification.specs.Lists.{SomeFact}
-use Rattle.answers.specs.Questions.{Answers, AreMarks, IsOnly, MayAnswer}
+use Rattle.answers.specs.Selections.{Answers, AreMarks, IsOnly, MayAnswer}
 use Rattle.answers.specs.Names.{IsMarked}
-use Rattle.answers.specs.declared.question.Question.{Question}
-use Rattle.answers.specs.declared.question.Question.TheVariants.{Above, Below, Members}
+use Rattle.answers.specs.declared.selection.Selection.{Selection}
+use Rattle.answers.specs.declared.selection.Selection.TheVariants.{Above, Below, Members}
 
 module _ (gives : Fact → ℕ → Type 0) (facts : List Fact) (numbers : List ℕ) where
   -- one of the first i numbers is that of a fact that gives n
@@ -65,7 +65,7 @@ module _ (gives : Fact → ℕ → Type 0) (facts : List Fact) (numbers : List �
 
 -- ---- which facts may answer
 
-pub may_answer : (o : Ontology) (q : Question) (f : Fact) (n : ℕ) → Answers o q f n → MayAnswer q f
+pub may_answer : (o : Ontology) (q : Selection) (f : Fact) (n : ℕ) → Answers o q f n → MayAnswer q f
 may_answer o (Above e) f n (h, class, puts) = subst (IsIn (contexts.Expr e)) (sym puts) refl
 may_answer o (Below e) f n given = tt
 may_answer o (Members e) f n given = tt

@@ -19,13 +19,13 @@ use Rattle.normalise.specs.Problem.{prefixes_of}
 use Rattle.engine.specs.Saturations.{Saturated, IsSaturated}
 use Rattle.countermodel.proofs.Facts.{code_of, whole_said}
 use Rattle.classification.specs.Lists.{SomeFact}
-use Rattle.answers.specs.Questions.{Answers, AreAnswers, FollowsFor, IsEvery, PutsExpression, PutsIndividual, expression_asked, names_asked}
+use Rattle.answers.specs.Selections.{Answers, AreAnswers, FollowsFor, IsEvery, PutsExpression, PutsIndividual, expression_asked, names_asked}
 use Rattle.answers.specs.Entailment.{LiesBelow, BelongsTo}
 use Rattle.answers.specs.Explanations.{IsClassNamed}
 use Rattle.answers.specs.Neighbours.{AreMarksAmong, AreMarksOf}
 use Rattle.answers.specs.Names.{AreThose, HasMark, IsMarked}
-use Rattle.answers.specs.declared.question.Question.{Question}
-use Rattle.answers.specs.declared.question.Question.TheVariants.{Above, Below, Members}
+use Rattle.answers.specs.declared.selection.Selection.{Selection}
+use Rattle.answers.specs.declared.selection.Selection.TheVariants.{Above, Below, Members}
 use Rattle.answers.proofs.Deriving.{named_tree}
 use Rattle.answers.proofs.Following.{below_by_facts, members_by_facts}
 use Rattle.answers.proofs.Naming.{mark_tells, those_same}
@@ -110,14 +110,14 @@ module _ (o : Ontology) (w : IsOntology o) (s : Saturated) (h : IsSaturated o s)
           λ follows. ⊎_elim (λ none. inl none) (λ p. inr (here.1 p)) (by.0 follows),
         )
 
-  answer_follows : (q : Question) → IsRoot o asked (Expression (expression_asked q)) → (n : ℕ) → n < length (names_asked o q)
+  answer_follows : (q : Selection) → IsRoot o asked (Expression (expression_asked q)) → (n : ℕ) → n < length (names_asked o q)
       → (IsEvery o s q ⊎ SomeFact s.state.facts (λ fact. Answers o q fact n)) ↔ FollowsFor o q (name_at (names_asked o q) n)
   answer_follows (Above e) root n low = above_answers e root n low
   answer_follows (Below e) root n low = below_answers e root n low
   answer_follows (Members e) root n low = member_answers e root n low
 
   -- the marks that answer are those of what follows, of a question about classes
-  pub marks_follow : (q : Question) → IsRoot o asked (Expression (expression_asked q)) → names_asked o q ≡ o.names.classes → (size : ℕ) → size ≡ length o.names.classes → (marks : List Bool)
+  pub marks_follow : (q : Selection) → IsRoot o asked (Expression (expression_asked q)) → names_asked o q ≡ o.names.classes → (size : ℕ) → size ≡ length o.names.classes → (marks : List Bool)
       → AreAnswers o s q size marks → AreMarksOf o.names.classes (FollowsFor o q) marks
   marks_follow q root classes size long marks are =
       let here = subst (λ (n : ℕ). AreAnswers o s q n marks) (long ∙ sym (ap length classes)) are in
@@ -141,7 +141,7 @@ module _ (o : Ontology) (w : IsOntology o) (s : Saturated) (h : IsSaturated o s)
   }
 
   -- the names that are marked are those that follow
-  those_follow : (q : Question) → IsRoot o asked (Expression (expression_asked q)) → (marks : List Bool) (answer : List Iri)
+  those_follow : (q : Selection) → IsRoot o asked (Expression (expression_asked q)) → (marks : List Bool) (answer : List Iri)
       → AreAnswers o s q (length (names_asked o q)) marks → AreThose (names_asked o q) (HasMark (names_asked o q) marks) answer → AreThose (names_asked o q) (FollowsFor o q) answer
   those_follow q root marks answer are those =
       those_same (names_asked o q) answer (HasMark (names_asked o q) marks) (FollowsFor o q) (mark_tells (names_asked o q) marks (FollowsFor o q) tells) those
@@ -153,7 +153,7 @@ module _ (o : Ontology) (w : IsOntology o) (s : Saturated) (h : IsSaturated o s)
           (λ m. follows.0 (mark.0 m), λ f. mark.1 (follows.1 f))
 
   -- the names that are marked are those that follow, by another list of names, marks and number, which are the same
-  pub those_named : (q : Question) → IsRoot o asked (Expression (expression_asked q)) → (names : List Iri) → names ≡ names_asked o q → (size : ℕ) → size ≡ length names → (marks shown : List Bool) → shown ≡ marks
+  pub those_named : (q : Selection) → IsRoot o asked (Expression (expression_asked q)) → (names : List Iri) → names ≡ names_asked o q → (size : ℕ) → size ≡ length names → (marks shown : List Bool) → shown ≡ marks
       → AreAnswers o s q size marks → (answer : List Iri) → AreThose names (HasMark names shown) answer → AreThose (names_asked o q) (FollowsFor o q) answer
   those_named q root names is size long marks shown same are answer those =
       let here = subst (λ (n : ℕ). AreAnswers o s q n marks) (long ∙ ap length is) are in
@@ -161,7 +161,7 @@ module _ (o : Ontology) (w : IsOntology o) (s : Saturated) (h : IsSaturated o s)
       those_follow q root marks answer here (subst (λ (ms : List Bool). AreThose (names_asked o q) (HasMark (names_asked o q) ms) answer) same marked)
 
 -- the names among which the answers are differ
-pub asked_apart : (o : Ontology) → IsOntology o → (q : Question) → AreDistinct (names_asked o q)
+pub asked_apart : (o : Ontology) → IsOntology o → (q : Selection) → AreDistinct (names_asked o q)
 asked_apart o w (Above e) = w.distinct_classes
 asked_apart o w (Below e) = w.distinct_classes
 asked_apart o w (Members e) = w.distinct_individuals

@@ -1,52 +1,33 @@
 -- Derivations that end in what is asked, and what they say.
-use Rattle.std.proofs.Common.{◌≡◌, ℕ, suc, ◌<◌, inl, inr, List, [], ◌∷◌, ◌++◌, length, map, get_or, slice_get, Some, Option, unwrap_or, All, Contains, refl, sym, ap, ◌∙◌, subst, arith}
+use Rattle.std.proofs.Common.{◌≡◌, ℕ, suc, ◌<◌, inl, inr, List, [], ◌∷◌, ◌++◌, length, map, slice_get, Some, Option, unwrap_or, Contains, refl, sym, ap, ◌∙◌, subst, arith}
 use Rattle.std.proofs.lemmas.Bool.{cases_eq}
 use Rattle.std.proofs.lemmas.List.{length_push}
-use Rattle.std.proofs.lemmas.Option.{slice_get-get_or, slice_get_within}
+use Rattle.std.proofs.lemmas.Option.{slice_get_within}
 use Rattle.lemmas.proofs.Mapped.{slice_get_map}
 use Rattle.lemmas.proofs.Members.{Contains-first}
 use Rattle.lemmas.proofs.Places.{slice_get_push, keeps_push}
 use Rattle.axioms.specs.Expression.{Iri, ClassExpression, Named}
-use Rattle.axioms.specs.Ontology.{Ontology, nothing, expression, individual_name, axiom_trees}
+use Rattle.axioms.specs.Ontology.{Ontology, nothing, expression, individual_name}
 use Rattle.axioms.specs.WellFormedness.{IsOntology}
-use Rattle.axioms.specs.View.{at_number}
 use Rattle.axioms.proofs.Trees.{class_tree}
-use Rattle.cert_check.specs.Derivation.{IsDerivation, HasLine, at_numbers}
+use Rattle.cert_check.specs.Derivation.{IsDerivation, at_numbers}
 use Rattle.cert_check.proofs.Derivations.{line_true}
-use Rattle.certificate.specs.Certificate.{Conclusion, Line, Subject, Sub}
-use Rattle.certificate.specs.Writability.{IsLineOf, IsSubjectOf}
+use Rattle.certificate.specs.Certificate.{Line, Subject, Sub}
+use Rattle.certificate.specs.Writability.{IsSubjectOf}
 use Rattle.closure.specs.Closure.{Context, Expression, IsRoot}
 use Rattle.closure.specs.Closure as closure
 use Rattle.exactness.specs.Derivability.{subject_of}
-use Rattle.exactness.specs.Trimming.{EndsWith, EachServes}
+use Rattle.exactness.specs.Trimming.{EachServes}
 use Rattle.exactness.proofs.Derivable.{derivation_push}
-use Rattle.interpretation_spec.specs.Interpretation.{IsContradictory, IsIn}
-use Rattle.answers.specs.Explanations.{IsAbout, IsClassNamed, FollowsFor, Derives, ShowsContradiction}
-use Rattle.answers.specs.Findings.{IsContradiction, IsLineWith, line_from_nothing}
-use Rattle.answers.specs.declared.asked.Asked.{Asked}
-use Rattle.answers.specs.declared.asked.Asked.TheVariants as asked
+use Rattle.interpretation_spec.specs.Interpretation.{IsIn}
+use Rattle.explain.proofs.Aiming.{has_last, lines_of_ontology}
+use Rattle.explain.specs.Needs.{Derives}
+use Rattle.answers.specs.Explanations.{IsAbout, IsClassNamed, FollowsFor}
+use Rattle.answers.specs.Findings.{line_from_nothing}
+use Rattle.program.specs.declared.question.Asked.{Asked}
+use Rattle.program.specs.declared.question.Asked.TheVariants as asked
 
 -- ---- lines
-
-pub lines_of_ontology : (o : Ontology) (lines : List Line) → IsDerivation o lines → All (IsLineOf o) lines
-lines_of_ontology o lines d = λ k e l. (d k (get_or lines k e) (slice_get-get_or lines k e l)).within
-
--- what is left for the line of that number
-pub derives_left : (o : Ontology) (lines left : List Line) (goal : ℕ) (c : Conclusion) → IsLineWith (λ said. said ≡ c) lines goal → IsDerivation o left
-    → ((line : Line) → at_number lines goal ≡ Some line → EndsWith left line.conclusion) → EachServes left → Derives o c left
-derives_left o lines left goal c is d ends serves =
-    let (counted, there, (line, at, says)) = is in
-    record { derivation = d; ends = subst (EndsWith left) says (ends line at); serves = serves; text = lines_of_ontology o left d }
-
--- what is left for a line that is a contradiction, where there is no interpretation
-pub shows_contradiction : (o : Ontology) → IsContradictory (axiom_trees o) → (lines left : List Line) (goal : ℕ) → IsLineWith IsContradiction lines goal → IsDerivation o left
-    → ((line : Line) → at_number lines goal ≡ Some line → EndsWith left line.conclusion) → EachServes left → ShowsContradiction o left
-shows_contradiction o contradictory lines left goal (counted, there, (line, at, (subject, top, says))) d ends serves = record {
-  contradictory = contradictory;
-  subject = subject;
-  top = top;
-  derives = derives_left o lines left goal (Sub subject nothing) (counted, there, (line, at, says)) d ends serves;
-}
 
 module _ (o : Ontology) (w : IsOntology o) (x : Subject) (class : ℕ) (lines : List Line) (subject : IsSubjectOf o x) (there : class < length o.nodes) (d : Derives o (Sub x nothing) lines) where
   abbrev More : List Line
@@ -92,9 +73,6 @@ module _ (o : Ontology) (w : IsOntology o) (x : Subject) (class : ℕ) (lines : 
 
 pub named_tree : (o : Ontology) (name : Iri) (e : ℕ) → IsClassNamed o name e → expression o e ≡ Named name
 named_tree o name e (c, at, g) = class_tree o c e at ∙ ap (λ (n : Option Iri). Named (unwrap_or n [])) g
-
-has_last : (lines : List Line) (c : Conclusion) → EndsWith lines c → HasLine lines c
-has_last lines c e = (length e.front, e.last, subst (λ (ls : List Line). slice_get ls (length e.front) ≡ Some e.last) (sym e.lines_are) (slice_get_push e.front e.last), e.says)
 
 -- what a derivation ends in follows
 pub derived_follows : (o : Ontology) → IsOntology o → (a : Asked) (x : Context) → IsAbout o a x → (name : Iri) (e : ℕ) → IsClassNamed o name e

@@ -1,13 +1,11 @@
 -- What a derivation that was found, and one that was not, say of what is asked.
 use Rattle.std.proofs.Common.{◌≡◌, ℕ, ◌<◌, Option, Some, None, MatchOption, List, [], ◌∷◌, ◌++◌, length, sym, subst}
 use Rattle.std.proofs.lemmas.List.{length-map}
-use Rattle.std.specs.Global.{Vec}
 use Rattle.answers.proofs.Following.{contradictory}
 use Rattle.axioms.specs.Expression.{Iri}
 use Rattle.axioms.specs.Ontology.{Ontology, nothing}
 use Rattle.axioms.specs.WellFormedness.{IsOntology}
-use Rattle.cert_check.specs.Derivation.{HasLine, IsDerivation}
-use Rattle.certificate.specs.Certificate.{Conclusion, Line, Subject, Sub}
+use Rattle.certificate.specs.Certificate.{Line, Subject, Sub}
 use Rattle.certificate.specs.Writability.{IsSubjectOf}
 use Rattle.certificate.specs.View.{line_of, lines_of}
 use Rattle.certificate.specs.declared.line.Line as code_line
@@ -15,9 +13,10 @@ use Rattle.closure.specs.Closure.{Context, Expression, IsContextBy, IsRoot, AreF
 use Rattle.exactness.specs.ListedInterpretation.{IsConsistent, IsSatisfiable}
 use Rattle.exactness.specs.Derivability.{subject_of}
 use Rattle.engine.specs.Saturations.{Saturated, IsSaturated}
-use Rattle.answers.specs.Explanations.{IsAbout, IsClassNamed, Derives, ShowsThatItFollows}
+use Rattle.answers.specs.Explanations.{IsAbout, IsClassNamed, ShowsThatItFollows}
+use Rattle.explain.specs.Needs.{Derives}
 use Rattle.answers.specs.Findings.{IsRefutable, line_from_nothing}
-use Rattle.answers.specs.declared.asked.Asked.{Asked}
+use Rattle.program.specs.declared.question.Asked.{Asked}
 use Rattle.answers.proofs.Deriving.{derived_follows, derives_class, root_subject}
 
 -- ---- what there is, or is not
@@ -43,12 +42,6 @@ derives_with o asked w x class items more y same root class_root d is =
     let by_length : Derives o (Sub y class) (lines_of items ++ line_from_nothing y class (length items) ∷ []) =
     subst (λ (n : ℕ). Derives o (Sub y class) (lines_of items ++ line_from_nothing y class n ∷ [])) counted derived in
     subst (λ (z : Subject). Derives o (Sub z class) more) same (subst (λ (ls : List Line). Derives o (Sub y class) ls) (sym is) by_length)
-
--- what is left of lines of which one says it
-pub left_derives : (o : Ontology) (c : Conclusion) (lines : List Line) (P : Type 0) (left : Option (Vec code_line.Line)) → IsDerivation o lines → HasLine lines c
-    → MatchOption left (HasLine lines c → ⊥) (λ v. (o : Ontology) → IsDerivation o lines → Derives o c (lines_of v.items)) → MatchOption left P (λ v. Derives o c (lines_of v.items))
-left_derives o c lines P None derivation has never = absurd (never has)
-left_derives o c lines P (Some v) derivation has derives = derives o derivation
 
 -- ---- explanations
 

@@ -8,7 +8,6 @@ pub mod AnsweredByFacts
 pub mod NamedThings
 pub mod Deriving
 pub mod Refuting
-pub mod Ending
 pub mod Explaining
 pub mod Knowing
 pub mod Leading

@@ -3,7 +3,7 @@ use Rattle.std.proofs.Common.{◌≡◌, ◌↔◌, ℕ, ◌+◌, ◌<◌, ◌�
 use Rattle.lemmas.proofs.Places.{slice_get_push, slice_get_push_cases, keeps_push, take_push}
 use Rattle.facts.specs.declared.contexts.Fact.{Fact}
 use Rattle.classification.specs.Lists.{SomeFact}
-use Rattle.answers.specs.Questions.{AreMarks, IsOnly}
+use Rattle.answers.specs.Selections.{AreMarks, IsOnly}
 use Rattle.answers.specs.Names.{IsMarked}
 
 one_more_fact : (P : Fact → Type 0) (facts : List Fact) (last : Fact) → SomeFact (facts ++ last ∷ []) P ↔ (SomeFact facts P ⊎ P last)

@@ -7,8 +7,8 @@ use Rattle.axioms.specs.Ontology.{Ontology, nothing}
 use Rattle.axioms.specs.declared.ids.ExprId.{ExprId}
 use Rattle.facts.specs.declared.contexts.Fact.{Fact}
 use Rattle.classification.specs.Lists.{SomeFact}
-use Rattle.answers.specs.Questions.{Answers, IsAnswer, PutsExpression, PutsIndividual}
-use Rattle.answers.specs.declared.question.Question.TheVariants.{Above, Below, Members}
+use Rattle.answers.specs.Selections.{Answers, IsAnswer, PutsExpression, PutsIndividual}
+use Rattle.answers.specs.declared.selection.Selection.TheVariants.{Above, Below, Members}
 
 -- ---- facts that answer nothing
 

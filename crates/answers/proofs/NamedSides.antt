@@ -8,9 +8,9 @@ use Rattle.answers.specs.Entailment.{LiesBelow}
 use Rattle.answers.specs.Explanations.{IsClassNamed}
 use Rattle.answers.specs.Names.{AreThose, HasMark, IsMarked}
 use Rattle.answers.specs.Neighbours.{AreMarksAmong, AreMarksOf, AreSame, IsNearer}
-use Rattle.answers.specs.Questions.{FollowsFor}
-use Rattle.answers.specs.declared.nearest.Side.TheVariants as sides
-use Rattle.answers.specs.declared.question.Question.TheVariants.{Above, Below}
+use Rattle.answers.specs.Selections.{FollowsFor}
+use Rattle.program.specs.declared.question.Side.TheVariants as sides
+use Rattle.answers.specs.declared.selection.Selection.TheVariants.{Above, Below}
 use Rattle.answers.proofs.Deriving.{named_tree}
 use Rattle.answers.proofs.Naming.{mark_tells, those_same}
 use Rattle.answers.proofs.Neighbouring.{among_all, among_same, marks_apart, marks_both, marks_same}

@@ -12,8 +12,8 @@ use Rattle.taxonomy.specs.Relation.{is_listed}
 use Rattle.answers.specs.Entailment.{LiesBelow}
 use Rattle.answers.specs.Names.{AreThose, HasMark, IsMarked}
 use Rattle.answers.specs.Neighbours.{AreGroups, AreSame, AreSatisfiable, IsClosed, IsFarther, IsNearer, IsNearest, LiesStrictlyBelow, PutsMarked, TellsGroup, farther}
-use Rattle.answers.specs.declared.nearest.Side.{Side}
-use Rattle.answers.specs.declared.nearest.Side.TheVariants.{Above, Below}
+use Rattle.program.specs.declared.question.Side.{Side}
+use Rattle.program.specs.declared.question.Side.TheVariants.{Above, Below}
 use Rattle.answers.proofs.Below.{same_back, strictly_same_left, strictly_same_right}
 use Rattle.answers.proofs.Listing.{listed_within}
 use Rattle.answers.proofs.Naming.{name_is}

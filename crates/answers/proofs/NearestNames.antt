@@ -7,7 +7,7 @@ use Rattle.classification.specs.Lists.{AreListsBy}
 use Rattle.engine.specs.Saturations.{IsSaturated, Saturated}
 use Rattle.answers.specs.Names.{AreThose, HasMark, IsMarked}
 use Rattle.answers.specs.Neighbours.{AreSatisfiable, IsFarther, PutsMarked}
-use Rattle.answers.specs.declared.nearest.Side.{Side}
+use Rattle.program.specs.declared.question.Side.{Side}
 use Rattle.answers.proofs.ListedBelow.{listed_below}
 use Rattle.answers.proofs.Nearby.{AreNearest, near_names}
 

@@ -11,8 +11,8 @@ use Rattle.number_sets.specs.Pieces.{list_at}
 use Rattle.taxonomy.specs.Relation.{is_listed}
 use Rattle.answers.specs.Names.{IsMarked}
 use Rattle.answers.specs.Neighbours.{IsFarther, IsFartherOf, farther}
-use Rattle.answers.specs.Questions.{IsOnly}
-use Rattle.answers.specs.declared.nearest.Side.{Side}
+use Rattle.answers.specs.Selections.{IsOnly}
+use Rattle.program.specs.declared.question.Side.{Side}
 use Rattle.answers.proofs.Grouping.{listed_is}
 
 module _ (lists : List (List ℕ)) (marks : List Bool) (side : Side) (low : ℕ) where

@@ -8,7 +8,7 @@ use Rattle.axioms.specs.Ontology.{Ontology, name_at}
 use Rattle.answers.specs.Entailment.{LiesBelow}
 use Rattle.answers.specs.Names.{AreThose, HasMark, IsMarked}
 use Rattle.answers.specs.Neighbours.{AreGroups, AreMarksAmong, AreMarksOf, AreOneGroup, AreSame, AreSatisfiable, IsNearer, IsNearest, LiesDirectlyBelow, LiesStrictlyBelow}
-use Rattle.answers.specs.declared.nearest.Side.TheVariants.{Above, Below}
+use Rattle.program.specs.declared.question.Side.TheVariants.{Above, Below}
 use Rattle.answers.proofs.Below.{below_all, nothing_below, strictly_same_left, strictly_same_right}
 use Rattle.answers.proofs.Naming.{mark_tells, marked_at, name_is, unmarked_at}
 

@@ -23,8 +23,8 @@ use Rattle.normal_forms.specs.Forms.{Whole}
 use Rattle.answers.specs.Explanations.{IsAbout, IsClassNamed, IsOf, Refutes}
 use Rattle.countermodel.specs.Elements.{leader}
 use Rattle.answers.specs.Findings.{IsPartFor, IsRefutable}
-use Rattle.answers.specs.declared.asked.Asked.{Asked}
-use Rattle.answers.specs.declared.asked.Asked.TheVariants as asked
+use Rattle.program.specs.declared.question.Asked.{Asked}
+use Rattle.program.specs.declared.question.Asked.TheVariants as asked
 use Rattle.answers.proofs.Deriving.{named_tree}
 use Rattle.answers.proofs.Leading.{fact_of_leader}
 

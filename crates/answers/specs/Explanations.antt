@@ -1,27 +1,25 @@
 -- What an explanation shows of a question: that it follows from the axioms that the subject is in the class, that it does not, or that
 -- there is no finite interpretation of the axioms at all.
 use Rattle.std.specs.Prelude.{◌≡◌, ℕ, ◌<◌, List, [], slice_get, Some}
-use Rattle.std.specs.List.{All, Contains}
+use Rattle.std.specs.List.{Contains}
 use Rattle.answers.specs.Entailment.{LiesBelow, BelongsTo}
 use Rattle.axioms.specs.Expression.{Iri, Named}
 use Rattle.axioms.specs.Ontology.{Ontology, IsClassAt, nothing, axiom_trees}
 use Rattle.cert_check.specs.Acceptance.{IsTop}
-use Rattle.cert_check.specs.Derivation.{IsDerivation}
-use Rattle.certificate.specs.Certificate.{Conclusion, Line, Subject, Sub}
-use Rattle.certificate.specs.Writability.{IsLineOf}
+use Rattle.certificate.specs.Certificate.{Line, Subject, Sub}
 use Rattle.certificate.specs.View.{lines_of}
 use Rattle.closure.specs.Closure.{Context, Expression}
 use Rattle.closure.specs.Closure as closure
 use Rattle.countermodel.specs.Elements.{leader}
 use Rattle.exactness.specs.ListedInterpretation.{IsListedInterpretation}
 use Rattle.exactness.specs.Derivability.{subject_of}
-use Rattle.exactness.specs.Trimming.{EndsWith, EachServes}
+use Rattle.explain.specs.Needs.{Derives}
 use Rattle.generated_part.specs.GeneratedPart.{IsGenerated}
 use Rattle.interpretation_spec.specs.NamedInterpretation.{interpretation_of}
 use Rattle.interpretation_spec.specs.Interpretation.{Interpretation, IsContradictory, IsIn, IsModel}
 use Rattle.interpretation_spec.specs.NumberedInterpretation.{NumberedInterpretation, IsMadeFor}
-use Rattle.answers.specs.declared.asked.Asked.{Asked}
-use Rattle.answers.specs.declared.asked.Asked.TheVariants.{Class, Individual}
+use Rattle.program.specs.declared.question.Asked.{Asked}
+use Rattle.program.specs.declared.question.Asked.TheVariants.{Class, Individual}
 use Rattle.answers.specs.declared.explanation.Explanation.{Explanation}
 use Rattle.answers.specs.declared.explanation.Explanation.TheVariants.{Yes, No, Contradictory}
 
@@ -54,14 +52,6 @@ IsAbout o (Individual a) (Expression e) = ⊥
 IsAbout o (Individual a) (closure.Individual n) = slice_get o.names.individuals n ≡ Some a.now
 
 -- ---- what is shown
-
--- a derivation from the axioms that ends in the conclusion, in which each other line is a premise of a later one
-pub record Derives (o : Ontology) (conclusion : Conclusion) (lines : List Line) : Type 0 where
-  pub derivation : IsDerivation o lines
-  pub ends : EndsWith lines conclusion
-  pub serves : EachServes lines
-  -- a text can be written
-  pub text : All (IsLineOf o) lines
 
 -- it follows, though there is an interpretation of the axioms: the lines derive that the subject is in the class
 pub record ShowsThatItFollows (o : Ontology) (asked : Asked) (class : Iri) (lines : List Line) : Type 0 where

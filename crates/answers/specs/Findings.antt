@@ -1,10 +1,8 @@
 -- What is found by numbers.
-use Rattle.std.specs.Prelude.{◌≡◌, ℕ, ◌<◌, ◌≤◌, List, [], ◌∷◌, length, slice_get, Some, None}
+use Rattle.std.specs.Prelude.{◌≡◌, ℕ, List, [], ◌∷◌, slice_get, Some, None}
 use Rattle.axioms.specs.Expression.{Iri}
 use Rattle.axioms.specs.Ontology.{Ontology, axiom_trees, nothing}
-use Rattle.axioms.specs.View.{at_number}
-use Rattle.cert_check.specs.Acceptance.{IsTop}
-use Rattle.certificate.specs.Certificate.{Conclusion, Line, Subject, Sub}
+use Rattle.certificate.specs.Certificate.{Line, Subject, Sub}
 use Rattle.certificate.specs.declared.line.Rule.TheVariants.{K3}
 use Rattle.closure.specs.Closure.{Context, In, IsFact}
 use Rattle.exactness.specs.ListedInterpretation.{IsListedInterpretation, AgreesWithClosure}
@@ -15,16 +13,8 @@ use Rattle.interpretation_spec.specs.NumberedInterpretation.{NumberedInterpretat
 use Rattle.normal_forms.specs.Forms.{Whole}
 use Rattle.answers.specs.Explanations.{Explains, IsAbout, IsClassNamed}
 use Rattle.countermodel.specs.Elements.{leader}
-use Rattle.answers.specs.declared.asked.Asked.{Asked}
+use Rattle.program.specs.declared.question.Asked.{Asked}
 use Rattle.answers.specs.declared.explanation.Explanation.{Explanation}
-
--- the line of that number, counted from 1, has a conclusion that is so
-abbrev pub IsLineWith : (Conclusion → Type 0) → List Line → ℕ → Type 0
-IsLineWith P lines n = (0 < n) × (n ≤ length lines) × ((line : Line) × (at_number lines n ≡ Some line) × P line.conclusion)
-
--- all things or an individual are in owl:Nothing
-abbrev pub IsContradiction : Conclusion → Type 0
-IsContradiction conclusion = (subject : Subject) × IsTop subject × (conclusion ≡ Sub subject nothing)
 
 -- neither the class nor owl:Nothing is a fact of the context
 abbrev pub IsRefutable : Ontology → List ℕ → Context → ℕ → Type 0

@@ -1,5 +1,6 @@
 pub mod Names
 pub mod Entailment
+pub mod Selections
 pub mod Questions
 pub mod Explanations
 pub mod Findings

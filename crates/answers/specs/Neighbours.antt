@@ -3,8 +3,8 @@ use Rattle.std.specs.Prelude.{◌≡◌, ◌↔◌, ℕ, ◌<◌, List, Bool, tr
 use Rattle.std.specs.List.{Contains}
 use Rattle.answers.specs.Entailment.{LiesBelow}
 use Rattle.answers.specs.Names.{AreInByteOrder, AreThose, IsMarked}
-use Rattle.answers.specs.declared.nearest.Side.{Side}
-use Rattle.answers.specs.declared.nearest.Side.TheVariants.{Above, Below}
+use Rattle.program.specs.declared.question.Side.{Side}
+use Rattle.program.specs.declared.question.Side.TheVariants.{Above, Below}
 use Rattle.axioms.specs.Expression.{Iri, owl_nothing}
 use Rattle.axioms.specs.Ontology.{Ontology, name_at}
 use Rattle.classification.specs.Lists.{PutsBelow}

@@ -1,81 +1,84 @@
--- What facts answer about a class expression, and what follows about it.
-use Rattle.std.specs.Prelude.{◌≡◌, ◌↔◌, ◌⊎◌, ◌<◌, ℕ, List, Bool, true, length, Option, Some}
-use Rattle.axioms.specs.Expression.{Iri, Named}
-use Rattle.axioms.specs.Ontology.{Ontology, IsClassAt, nothing, expression, axiom_trees}
-use Rattle.classification.specs.Lists.{SomeFact}
-use Rattle.engine.specs.Saturations.{Saturated}
-use Rattle.exactness.specs.ListedInterpretation.{IsConsistent}
-use Rattle.facts.specs.declared.contexts.Context.TheVariants as contexts
-use Rattle.facts.specs.declared.contexts.Fact.{Fact}
-use Rattle.facts.specs.declared.contexts.Fact.TheVariants.{In}
-use Rattle.indexes.specs.FactIndex.{IsIn}
-use Rattle.interpretation_spec.specs.Interpretation.{IsBelow, IsMember}
-use Rattle.normal_forms.specs.declared.forms.Class2.TheVariants.{Expr}
-use Rattle.answers.specs.Names.{IsMarked}
-use Rattle.answers.specs.declared.question.Question.{Question}
-use Rattle.answers.specs.declared.question.Question.TheVariants.{Above, Below, Members}
+-- Questions by name, and what answers them.
+use Rattle.std.specs.Prelude.{◌≡◌, ◌⊎◌, ◌∷◌, ℕ, List, [], map}
+use Rattle.std.specs.List.{All, Contains}
+use Rattle.answers.specs.Entailment.{BelongsTo, LiesBelow}
+use Rattle.answers.specs.Explanations.{Explains}
+use Rattle.answers.specs.Names.{AreThose, groups_in}
+use Rattle.answers.specs.Neighbours.{AreGroups, AreSame, LiesDirectlyBelow}
+use Rattle.answers.specs.declared.answer.Answer.{Answer}
+use Rattle.answers.specs.declared.answer.Answer.TheVariants as answers
+use Rattle.axioms.specs.Expression.{Iri}
+use Rattle.axioms.specs.Growth.{names_of}
+use Rattle.axioms.specs.Ontology.{Ontology}
+use Rattle.axioms.specs.declared.terms.Kind.{Kind}
+use Rattle.axioms.specs.declared.terms.Kind.TheVariants as kinds
+use Rattle.program.specs.declared.question.Asked.{Asked}
+use Rattle.program.specs.declared.question.Asked.TheVariants as subjects
+use Rattle.program.specs.declared.question.Question.{Question}
+use Rattle.program.specs.declared.question.Question.TheVariants.{Names, Groups, Why}
+use Rattle.program.specs.declared.question.Related.{Related}
+use Rattle.program.specs.declared.question.Related.TheVariants.{Superclasses, Subclasses, Equivalents, Instances}
+use Rattle.program.specs.declared.question.Side.{Side}
+use Rattle.program.specs.declared.question.Side.TheVariants.{Above, Below}
 
--- the number of the expression that is asked about
-abbrev pub expression_asked : Question → ℕ
-expression_asked (Above e) = e.0
-expression_asked (Below e) = e.0
-expression_asked (Members e) = e.0
+-- ---- the names in a question
 
--- the names among which the answers are
-abbrev pub names_asked : Ontology → Question → List Iri
-names_asked o (Above e) = o.names.classes
-names_asked o (Below e) = o.names.classes
-names_asked o (Members e) = o.names.individuals
+-- a class by its name
+abbrev pub class_name : Iri → Kind × Iri
+class_name class = (kinds.Class, class)
 
--- the name is an answer in every finite interpretation of the axioms
-abbrev pub FollowsFor : Ontology → Question → Iri → Type 0
-FollowsFor o (Above e) name = IsBelow (axiom_trees o) (expression o e.0) (Named name)
-FollowsFor o (Below e) name = IsBelow (axiom_trees o) (Named name) (expression o e.0)
-FollowsFor o (Members e) name = IsMember (axiom_trees o) name (expression o e.0)
+-- what is asked of, by its name
+abbrev pub subject_name : Asked → Kind × Iri
+subject_name (subjects.Class c) = (kinds.Class, c.now)
+subject_name (subjects.Individual a) = (kinds.Individual, a.now)
 
--- ---- by facts
+-- the names in a question, from the left, each with its kind
+abbrev pub names_in : Question → List (Kind × Iri)
+names_in (Names related class) = class_name class.now ∷ []
+names_in (Groups side class) = class_name class.now ∷ []
+names_in (Why asked class shown) = subject_name asked ∷ class_name class.now ∷ []
 
--- the fact puts the expression of number e in that of number f
-abbrev pub PutsExpression : Fact → ℕ → ℕ → Type 0
-PutsExpression fact e f = fact ≡ In (Expr (record { 0 = f })) (contexts.Expr (record { 0 = e }))
+-- the ontology has the name, in its kind
+abbrev pub HasName : Ontology → Kind × Iri → Type 0
+HasName o named = Contains (names_of o.names named.0) named.1
 
--- the fact puts the individual of number a in the expression of number f
-abbrev pub PutsIndividual : Fact → ℕ → ℕ → Type 0
-PutsIndividual fact a f = fact ≡ In (Expr (record { 0 = f })) (contexts.Individual (record { 0 = a }))
+-- it has each name in the question
+abbrev pub AreKnown : Ontology → Question → Type 0
+AreKnown o question = All (HasName o) (names_in question)
 
--- the fact answers the question with this number: of a class that the expression is put in, or that is put in the expression or in
--- owl:Nothing, or of an individual that is put in the expression
-abbrev pub Answers : Ontology → Question → Fact → ℕ → Type 0
-Answers o (Above e) fact n = (f : ℕ) × IsClassAt o n f × PutsExpression fact e.0 f
-Answers o (Below e) fact n = (f : ℕ) × IsClassAt o n f × (PutsExpression fact f e.0 ⊎ PutsExpression fact f nothing)
-Answers o (Members e) fact n = PutsIndividual fact n e.0
+-- it is the first of the names, from the left, that the ontology lacks
+abbrev pub IsFirstUnknown : Ontology → (names : List (Kind × Iri)) → Iri → Type 0
+IsFirstUnknown o [] unknown = ⊥
+IsFirstUnknown o (named ∷ later) unknown = (¬ HasName o named × (unknown ≡ named.1)) ⊎ (HasName o named × IsFirstUnknown o later unknown)
 
--- such facts alone may answer it: those that put a class into the expression that is asked about, or any
-abbrev pub MayAnswer : Question → Fact → Type 0
-MayAnswer (Above e) fact = IsIn (contexts.Expr e) fact
-MayAnswer (Below e) fact = Unit {0}
-MayAnswer (Members e) fact = Unit {0}
+-- ---- what answers a question
 
--- the number is the only one that is given, or none is
-abbrev pub IsOnly : (ℕ → Type 0) → Option ℕ → Type 0
-IsOnly gives found = (n : ℕ) → gives n ↔ (found ≡ Some n)
+-- the names among which those are that are related so to a class
+abbrev pub names_related : Ontology → Related → List Iri
+names_related o Superclasses = o.names.classes
+names_related o Subclasses = o.names.classes
+names_related o Equivalents = o.names.classes
+names_related o Instances = o.names.individuals
 
--- the number is the one that the fact answers with, or it answers with none
-abbrev pub IsAnswer : Ontology → Question → Fact → Option ℕ → Type 0
-IsAnswer o question fact answer = IsOnly (Answers o question fact) answer
+-- in every finite interpretation of the axioms the name is related so to the class
+abbrev pub IsRelated : Ontology → Related → (class name : Iri) → Type 0
+IsRelated o Superclasses class name = LiesBelow o class name
+IsRelated o Subclasses class name = LiesBelow o name class
+IsRelated o Equivalents class name = AreSame o class name
+IsRelated o Instances class name = BelongsTo o name class
 
--- every name is an answer: there is no finite interpretation of the axioms, or the expression has no element in any
-abbrev pub IsEvery : Ontology → Saturated → Question → Type 0
-IsEvery o s (Above e) = (IsConsistent o s.normal.asked → ⊥) ⊎ SomeFact s.state.facts (λ fact. PutsExpression fact e.0 nothing)
-IsEvery o s (Below e) = IsConsistent o s.normal.asked → ⊥
-IsEvery o s (Members e) = IsConsistent o s.normal.asked → ⊥
+-- these are exactly the names that are related so to the class, each once and in byte order
+abbrev pub AreRelated : Ontology → Related → (class : Iri) → (names : List Iri) → Type 0
+AreRelated o related class names = AreThose (names_related o related) (IsRelated o related class) names
 
--- so many marks: on all numbers, or on those that some fact gives
-pub record AreMarks (gives : Fact → ℕ → Type 0) (facts : List Fact) (every : Bool) (size : ℕ) (marks : List Bool) : Type 0 where
-  pub long : length marks ≡ size
-  pub exact : (n : ℕ) → n < size → IsMarked marks n ↔ ((every ≡ true) ⊎ SomeFact facts (λ fact. gives fact n))
+-- these are the named classes directly on that side of the class, in groups of those that are the same
+abbrev pub AreBeside : Ontology → Side → (class : Iri) → (groups : List (List Iri)) → Type 0
+AreBeside o Above class groups = AreGroups o (LiesDirectlyBelow o class) groups
+AreBeside o Below class groups = AreGroups o (λ name. LiesDirectlyBelow o name class) groups
 
--- so many marks, on the numbers that answer the question
-pub record AreAnswers (o : Ontology) (s : Saturated) (question : Question) (size : ℕ) (marks : List Bool) : Type 0 where
-  pub long : length marks ≡ size
-  pub exact : (n : ℕ) → n < size → IsMarked marks n ↔ (IsEvery o s question ⊎ SomeFact s.state.facts (λ fact. Answers o question fact n))
+-- the answer is one to such a question, and says what is the case
+abbrev pub IsAnswerTo : Ontology → Question → Answer → Type 0
+IsAnswerTo o (Names related class) (answers.Names names) = AreRelated o related class.now (map (λ name. name.now) names.items)
+IsAnswerTo o (Groups side class) (answers.Groups groups) = AreBeside o side class.now (groups_in groups.items)
+IsAnswerTo o (Why asked class shown) (answers.Why explanation) = Explains o asked class.now explanation
+IsAnswerTo o question answer = ⊥

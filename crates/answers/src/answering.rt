@@ -7,7 +7,6 @@ ghost use Rattle.answers.specs.Explanations.{Explains, IsKnown};
 ghost use Rattle.answers.specs.Findings.{ExplainsOf};
 ghost use Rattle.std.specs.Prelude.{◌↔◌, Contains, IfOk, IfSome, IsSome};
 
-use crate::asked::Asked;
 use crate::derived::{derivation_of, derived_contradiction};
 use crate::explanation::Explanation;
 use crate::named::{class_named, subject_named};
@@ -16,6 +15,7 @@ use axioms::{ExprId, Memory};
 use classification::is_consistent;
 use engine::Indexed;
 use facts::Context;
+use program::Asked;
 
 /// Whether, and why, the subject is in the class, where there is an interpretation of the axioms.
 ///
@@ -74,7 +74,7 @@ fn explanation_of(
 /// # Errors
 ///
 /// `Memory` where memory was refused, or 32 bits do not count the facts.
-pub fn explained(
+pub(crate) fn explained(
     indexed: &Indexed<'_>,
     asked: Asked<'_>,
     class: &str,

@@ -1,99 +1,112 @@
-//! The named classes above and below a class or an expression, and its individuals.
-ghost use Rattle.answers.specs.Questions.{FollowsFor, expression_asked, names_asked};
-ghost use Rattle.answers.specs.Entailment.{BelongsTo, LiesBelow};
-ghost use Rattle.answers.specs.Names.{AreThose};
-ghost use Rattle.closure.specs.Closure.{Expression, IsRoot};
-ghost use Rattle.std.specs.Prelude.{◌↔◌, ◌≡◌, Contains, IfOk, IfSome, IsSome, map, string_bytes};
+//! Questions by name, and their answers.
+ghost use Rattle.answers.specs.Explanations.{IsClassNamed};
+ghost use Rattle.answers.specs.Names.{groups_in};
+ghost use Rattle.answers.specs.Questions.{AreBeside, AreKnown, AreRelated, IsAnswerTo};
+ghost use Rattle.axioms.specs.Expression.{Iri};
+ghost use Rattle.engine.specs.Saturations.{IsUnasked};
+ghost use Rattle.std.specs.Prelude.{◌↔◌, Contains, IfOk, IfSome, IsSome, map};
 
-use crate::marks::marks_of;
+use crate::answer::Answer;
+use crate::answering::explained;
 use crate::named::class_named;
-use crate::names::names_in_order;
-use crate::question::Question;
-use axioms::Memory;
+use crate::neighbours::{directly_above, directly_below, equivalents_of};
+use crate::selecting::selected;
+use crate::selection::Selection;
+use axioms::{ExprId, Memory};
 use engine::Indexed;
+use program::{Question, Related, Side};
 
-/// The names that answer a question about an expression that is a named class or is asked about in the saturation, in byte order. In
-/// an ontology that no finite interpretation has, these are all names. The names are those of the ontology's classes, or of its
-/// individuals.
-///
-/// # Errors
-///
-/// `Memory` where memory was refused.
-pub fn answers<'a>(
-    names: &'a [String],
-    indexed: &Indexed<'_>,
-    question: Question,
+/// The names that are related so to the class, in byte order.
+fn names_related<'a>(
+    indexed: &Indexed<'a>,
+    related: Related,
+    class: ExprId,
 ) -> Result<Vec<&'a str>, Memory>
-    requires root { IsRoot indexed.now.ontology indexed.now.saturation.normal.asked (Expression (expression_asked question)) }
-    requires names { map string_bytes names.now ≡ names_asked indexed.now.ontology question }
-    ensures { IfOk result
-        (λ v. AreThose (names_asked indexed.now.ontology question) (FollowsFor indexed.now.ontology question) (map (λ s. s.now) v.items)) }
+    requires { (name : Iri) × IsClassNamed indexed.now.ontology name class.0 }
+    ensures { IfOk result (λ v. (name : Iri) → IsClassNamed indexed.now.ontology name class.0 →
+        AreRelated indexed.now.ontology related name (map (λ s. s.now) v.items)) }
 {
-    let closed = indexed.closed();
-    closed.well_formed();
-    let marks = marks_of(indexed, question, names.len())?;
-    names_in_order(closed.allocator(), names, &marks)
+    let ontology = indexed.closed().ontology();
+    match related {
+        Related::Superclasses => selected(ontology.classes(), indexed, Selection::Above(class)),
+        Related::Subclasses => selected(ontology.classes(), indexed, Selection::Below(class)),
+        Related::Equivalents => equivalents_of(indexed, class),
+        Related::Instances => selected(ontology.individuals(), indexed, Selection::Members(class)),
+    }
 }
 
-/// The IRIs of the named classes that lie above the class in every finite interpretation in which the axioms hold, in byte
-/// order. In an ontology that no such interpretation has, these are all its named classes. `None` where the ontology has no
-/// class of that name.
+/// The classes directly on that side of the class, in groups of those that are the same.
+fn groups_beside<'a>(
+    indexed: &Indexed<'a>,
+    side: Side,
+    class: ExprId,
+) -> Result<Vec<Vec<&'a str>>, Memory>
+    requires { (name : Iri) × IsClassNamed indexed.now.ontology name class.0 }
+    ensures { IfOk result (λ v. (name : Iri) → IsClassNamed indexed.now.ontology name class.0 →
+        AreBeside indexed.now.ontology side name (groups_in v.items)) }
+{
+    match side {
+        Side::Above => directly_above(indexed, class),
+        Side::Below => directly_below(indexed, class),
+    }
+}
+
+/// The names that are related so to the class of that name, if the ontology has it.
+fn names_asked<'a>(
+    indexed: &Indexed<'a>,
+    related: Related,
+    name: &str,
+) -> Result<Option<Vec<&'a str>>, Memory>
+    ensures known { IfOk result (λ answer. IsSome answer ↔ Contains indexed.now.ontology.names.classes name.now) }
+    ensures exact { IfOk result (λ answer. IfSome answer (λ v. AreRelated indexed.now.ontology related name.now (map (λ s. s.now) v.items))) }
+{
+    let Some(class) = class_named(indexed, name) else {
+        return Ok(None);
+    };
+    let names = names_related(indexed, related, class)?;
+    Ok(Some(names))
+}
+
+/// The classes directly on that side of the class of that name, if the ontology has it.
+fn groups_asked<'a>(
+    indexed: &Indexed<'a>,
+    side: Side,
+    name: &str,
+) -> Result<Option<Vec<Vec<&'a str>>>, Memory>
+    ensures known { IfOk result (λ answer. IsSome answer ↔ Contains indexed.now.ontology.names.classes name.now) }
+    ensures exact { IfOk result (λ answer. IfSome answer (λ v. AreBeside indexed.now.ontology side name.now (groups_in v.items))) }
+{
+    let Some(class) = class_named(indexed, name) else {
+        return Ok(None);
+    };
+    let groups = groups_beside(indexed, side, class)?;
+    Ok(Some(groups))
+}
+
+/// The answer to the question, by what holds in every finite interpretation in which the axioms hold. In an ontology that no such
+/// interpretation has, all names are related in each way to each class, and none lies directly above or below another. `None` where
+/// the ontology lacks a name of the question. Nothing is asked about in the saturation.
 ///
 /// # Errors
 ///
 /// `Memory` where memory was refused.
-pub fn superclasses<'a>(indexed: &Indexed<'a>, class: &str) -> Result<Option<Vec<&'a str>>, Memory>
-    ensures known { IfOk result (λ answer. IsSome answer ↔ Contains indexed.now.ontology.names.classes class.now) }
-    ensures exact { IfOk result (λ answer. IfSome answer
-        (λ v. AreThose indexed.now.ontology.names.classes (LiesBelow indexed.now.ontology class.now) (map (λ s. s.now) v.items))) }
+pub fn ask<'a>(indexed: &Indexed<'a>, question: Question<'_>) -> Result<Option<Answer<'a>>, Memory>
+    requires unasked { IsUnasked indexed.now.saturation }
+    ensures known { IfOk result (λ answer. IsSome answer ↔ AreKnown indexed.now.ontology question.entry) }
+    ensures exact { IfOk result (λ answer. IfSome answer (IsAnswerTo indexed.now.ontology question.entry)) }
 {
-    let Some(class) = class_named(indexed, class) else {
-        return Ok(None);
-    };
-    let question = Question::Above(class);
-    let classes = indexed.closed().ontology().classes();
-    let names = answers(classes, indexed, question)?;
-    Ok(Some(names))
-}
-
-/// The IRIs of the named classes that lie below the class in every finite interpretation in which the axioms hold, in byte
-/// order. In an ontology that no such interpretation has, these are all its named classes. `None` where the ontology has no
-/// class of that name.
-///
-/// # Errors
-///
-/// `Memory` where memory was refused.
-pub fn subclasses<'a>(indexed: &Indexed<'a>, class: &str) -> Result<Option<Vec<&'a str>>, Memory>
-    ensures known { IfOk result (λ answer. IsSome answer ↔ Contains indexed.now.ontology.names.classes class.now) }
-    ensures exact { IfOk result (λ answer. IfSome answer
-        (λ v. AreThose indexed.now.ontology.names.classes (λ name. LiesBelow indexed.now.ontology name class.now) (map (λ s. s.now) v.items))) }
-{
-    let Some(class) = class_named(indexed, class) else {
-        return Ok(None);
-    };
-    let question = Question::Below(class);
-    let classes = indexed.closed().ontology().classes();
-    let names = answers(classes, indexed, question)?;
-    Ok(Some(names))
-}
-
-/// The IRIs of the individuals that belong to the class in every finite interpretation in which the axioms hold, in byte
-/// order. In an ontology that no such interpretation has, these are all its individuals. `None` where the ontology has no
-/// class of that name.
-///
-/// # Errors
-///
-/// `Memory` where memory was refused.
-pub fn instances<'a>(indexed: &Indexed<'a>, class: &str) -> Result<Option<Vec<&'a str>>, Memory>
-    ensures known { IfOk result (λ answer. IsSome answer ↔ Contains indexed.now.ontology.names.classes class.now) }
-    ensures exact { IfOk result (λ answer. IfSome answer
-        (λ v. AreThose indexed.now.ontology.names.individuals (λ name. BelongsTo indexed.now.ontology name class.now) (map (λ s. s.now) v.items))) }
-{
-    let Some(class) = class_named(indexed, class) else {
-        return Ok(None);
-    };
-    let question = Question::Members(class);
-    let individuals = indexed.closed().ontology().individuals();
-    let names = answers(individuals, indexed, question)?;
-    Ok(Some(names))
+    match question {
+        Question::Names(related, class) => match names_asked(indexed, related, class)? {
+            Some(names) => Ok(Some(Answer::Names(names))),
+            None => Ok(None),
+        },
+        Question::Groups(side, class) => match groups_asked(indexed, side, class)? {
+            Some(groups) => Ok(Some(Answer::Groups(groups))),
+            None => Ok(None),
+        },
+        Question::Why(asked, class, _) => match explained(indexed, asked, class)? {
+            Some(explanation) => Ok(Some(Answer::Why(explanation))),
+            None => Ok(None),
+        },
+    }
 }

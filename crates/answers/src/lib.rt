@@ -2,8 +2,8 @@
 //! by all facts of its closure; and why something follows, or why it does not.
 #![tactic(auto)]
 
+mod answer;
 mod answering;
-mod asked;
 mod asking;
 mod derived;
 mod explanation;
@@ -14,15 +14,15 @@ mod named;
 mod names;
 mod nearest;
 mod neighbours;
-mod question;
 mod refuted;
+mod selecting;
+mod selection;
 mod theory;
 
-pub use answering::explained;
-pub use asked::Asked;
-pub use asking::{answers, instances, subclasses, superclasses};
+pub use answer::Answer;
+pub use asking::ask;
 pub use explanation::Explanation;
 pub use names::names_in_order;
-pub use neighbours::{children, equivalents, parents};
-pub use question::Question;
+pub use selecting::selected;
+pub use selection::Selection;
 pub use theory::what_follows;

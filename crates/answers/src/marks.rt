@@ -1,14 +1,14 @@
 //! Marks on the numbers that facts answer with.
-ghost use Rattle.answers.specs.Questions.{Answers, AreAnswers, AreMarks, IsAnswer, IsEvery, MayAnswer, PutsExpression, PutsIndividual};
+ghost use Rattle.answers.specs.Selections.{Answers, AreAnswers, AreMarks, IsAnswer, IsEvery, MayAnswer, PutsExpression, PutsIndividual};
 ghost use Rattle.answers.specs.Names.{IsMarked};
-ghost use Rattle.answers.specs.declared.question.Question.TheVariants as asked;
+ghost use Rattle.answers.specs.declared.selection.Selection.TheVariants as asked;
 ghost use Rattle.axioms.specs.Ontology.{nothing};
 ghost use Rattle.classification.specs.Lists.{SomeFact};
 ghost use Rattle.saturate.specs.ServedFacts.{AreNumbersOf};
 ghost use Rattle.std.specs.Prelude.{◌<◌, ◌≤◌, ◌^◌, ◌↔◌, ◌≡◌, ◌⊎◌, IfOk, IfSome, IsTrue, MatchOption, Some, length, true, ℕ};
 
 use crate::named::{class_numbered, few_classes};
-use crate::question::Question;
+use crate::selection::Selection;
 use axioms::{ExprId, IndId, Memory, Ontology};
 use classification::is_consistent;
 use engine::{Closed, Indexed};
@@ -79,13 +79,13 @@ fn member(ontology: &Ontology, expression: ExprId, fact: &StoredFact) -> Option<
 /// The number that the fact answers the question with.
 // A call for each fact would double what it costs to go over all.
 #[inline(always)]
-fn answer(ontology: &Ontology, question: Question, fact: &StoredFact) -> Option<usize>
+fn answer(ontology: &Ontology, question: Selection, fact: &StoredFact) -> Option<usize>
     ensures { IsAnswer ontology.now question fact.now result }
 {
     match question {
-        Question::Above(expression) => above(ontology, expression, fact),
-        Question::Below(expression) => below(ontology, expression, fact),
-        Question::Members(expression) => member(ontology, expression, fact),
+        Selection::Above(expression) => above(ontology, expression, fact),
+        Selection::Below(expression) => below(ontology, expression, fact),
+        Selection::Members(expression) => member(ontology, expression, fact),
     }
 }
 
@@ -144,7 +144,7 @@ fn marked_by(
     alloc: Global,
     ontology: &Ontology,
     facts: &[StoredFact],
-    question: Question,
+    question: Selection,
     every: bool,
     size: usize,
 ) -> Result<Vec<bool>, Memory>
@@ -163,7 +163,7 @@ fn marked_among(
     ontology: &Ontology,
     facts: &[StoredFact],
     numbers: &[u32],
-    question: Question,
+    question: Selection,
     every: bool,
     size: usize,
 ) -> Result<Vec<bool>, Memory>
@@ -179,12 +179,12 @@ fn marked_among(
 }
 
 /// The numbers of the facts that may answer the question, where they are found without going over all facts.
-fn asked_facts<'a>(indexed: &Indexed<'a>, question: Question) -> Option<&'a [u32]>
+fn asked_facts<'a>(indexed: &Indexed<'a>, question: Selection) -> Option<&'a [u32]>
     ensures { IfSome result (λ numbers. AreNumbersOf (MayAnswer question) indexed.now.saturation.state.facts numbers.now) }
 {
     match question {
-        Question::Above(expression) => Some(indexed.classes_in(Context::Expr(expression))),
-        Question::Below(_) | Question::Members(_) => None,
+        Selection::Above(expression) => Some(indexed.classes_in(Context::Expr(expression))),
+        Selection::Below(_) | Selection::Members(_) => None,
     }
 }
 
@@ -204,15 +204,15 @@ fn is_empty(indexed: &Indexed<'_>, expression: ExprId) -> bool
 }
 
 /// Whether every name is an answer, since there is no interpretation or the expression has no element in any.
-fn is_every(indexed: &Indexed<'_>, question: Question) -> bool
+fn is_every(indexed: &Indexed<'_>, question: Selection) -> bool
     ensures { IsTrue result ↔ IsEvery indexed.now.ontology indexed.now.saturation question }
 {
     if !is_consistent(indexed) {
         return true;
     }
     match question {
-        Question::Above(expression) => is_empty(indexed, expression),
-        Question::Below(_) | Question::Members(_) => false,
+        Selection::Above(expression) => is_empty(indexed, expression),
+        Selection::Below(_) | Selection::Members(_) => false,
     }
 }
 
@@ -247,18 +247,18 @@ fn is_found_member(indexed: &Indexed<'_>, expression: ExprId, number: u32) -> bo
 }
 
 /// Whether a fact answers the question with the number.
-fn is_found(indexed: &Indexed<'_>, question: Question, number: u32) -> bool
+fn is_found(indexed: &Indexed<'_>, question: Selection, number: u32) -> bool
     ensures { IsTrue result ↔ SomeFact indexed.now.saturation.state.facts (λ fact. Answers indexed.now.ontology question fact number) }
 {
     match question {
-        Question::Above(expression) => is_found_above(indexed, expression, number),
-        Question::Below(expression) => is_found_below(indexed, expression, number),
-        Question::Members(expression) => is_found_member(indexed, expression, number),
+        Selection::Above(expression) => is_found_above(indexed, expression, number),
+        Selection::Below(expression) => is_found_below(indexed, expression, number),
+        Selection::Members(expression) => is_found_member(indexed, expression, number),
     }
 }
 
 /// Whether every number answers the question, or a fact answers it with this one.
-fn is_answer(indexed: &Indexed<'_>, question: Question, every: bool, number: u32) -> bool
+fn is_answer(indexed: &Indexed<'_>, question: Selection, every: bool, number: u32) -> bool
     ensures { IsTrue result ↔ ((every ≡ true) ⊎ SomeFact indexed.now.saturation.state.facts (λ fact. Answers indexed.now.ontology question fact number)) }
 {
     every || is_found(indexed, question, number)
@@ -267,7 +267,7 @@ fn is_answer(indexed: &Indexed<'_>, question: Question, every: bool, number: u32
 /// Marks on those of the marked numbers that a fact answers with, or on each of them.
 fn found_among(
     indexed: &Indexed<'_>,
-    question: Question,
+    question: Selection,
     every: bool,
     marks: &[bool],
 ) -> Result<Vec<bool>, Memory>
@@ -288,7 +288,7 @@ fn found_among(
 /// So many marks: on each number, or on those that a fact answers with.
 fn marks_found(
     indexed: &Indexed<'_>,
-    question: Question,
+    question: Selection,
     every: bool,
     size: usize,
 ) -> Result<Vec<bool>, Memory>
@@ -317,7 +317,7 @@ pub(crate) fn below_among(
         IsMarked v.items n ↔ (IsEvery indexed.now.ontology indexed.now.saturation (asked.Below expression) ⊎ SomeFact indexed.now.saturation.state.facts (λ fact. Answers indexed.now.ontology (asked.Below expression) fact n))) }
 {
     few_classes(indexed);
-    let question = Question::Below(expression);
+    let question = Selection::Below(expression);
     let every = is_every(indexed, question);
     found_among(indexed, question, every, marks)
 }
@@ -341,7 +341,7 @@ pub(crate) fn are_few(closed: &Closed<'_>, names: usize) -> bool
 /// `Memory` where memory was refused.
 pub(crate) fn marks_of(
     indexed: &Indexed<'_>,
-    question: Question,
+    question: Selection,
     size: usize,
 ) -> Result<Vec<bool>, Memory>
     ensures { IfOk result (λ v. AreAnswers indexed.now.ontology indexed.now.saturation question size v.items) }

@@ -5,10 +5,10 @@ ghost use Rattle.axioms.specs.Ontology.{IsClassAt};
 ghost use Rattle.closure.specs.Denotations.{context_of};
 ghost use Rattle.std.specs.Prelude.{◌≡◌, ◌≤◌, ◌^◌, Contains, IfSome, MatchOption, Some, length, slice_get, ℕ};
 
-use crate::asked::Asked;
 use axioms::{ClassId, ExprId, IndId, Kind};
 use engine::Indexed;
 use facts::Context;
+use program::Asked;
 
 /// 32 bits number the classes.
 pub(crate) fn few_classes(indexed: &Indexed<'_>)

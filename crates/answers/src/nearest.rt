@@ -1,7 +1,7 @@
 //! Of classes above or below a class, those that are farther from it than others.
 ghost use Rattle.answers.specs.Names.{IsMarked};
 ghost use Rattle.answers.specs.Neighbours.{IsFarther, IsFartherOf, farther};
-ghost use Rattle.answers.specs.Questions.{IsOnly};
+ghost use Rattle.answers.specs.Selections.{IsOnly};
 ghost use Rattle.std.specs.Prelude.{◌<◌, ◌↔◌, ◌≡◌, ◌⊎◌, IfOk, length, true, ℕ};
 ghost use Rattle.taxonomy.specs.Relation.{is_listed};
 
@@ -9,14 +9,8 @@ use crate::lists_above::has;
 use crate::marks::mark;
 use axioms::Memory;
 use number_sets::PackedLists;
+use program::Side;
 use std::alloc::Global;
-
-/// On which side of a class others lie.
-#[derive(Clone, Copy)]
-pub(crate) enum Side {
-    Above,
-    Below,
-}
 
 /// Of two classes, of which `low` lies below `high`, the one that is farther from what lies on that side of it.
 fn farther(side: Side, low: usize, high: usize) -> usize

@@ -2,9 +2,9 @@
 ghost use Rattle.answers.specs.Explanations.{IsClassNamed};
 ghost use Rattle.answers.specs.Names.{AreThose, HasMark, groups_in};
 ghost use Rattle.answers.specs.Neighbours.{AreGroups, AreMarksAmong, AreMarksOf, AreOneGroup, AreSame, AreSatisfiable, IsNearer, IsNearest, LiesDirectlyBelow};
-ghost use Rattle.answers.specs.declared.nearest.Side.TheVariants.{Above, Below};
-ghost use Rattle.answers.specs.declared.question.Question.TheVariants as asked;
-ghost use Rattle.answers.specs.Questions.{FollowsFor, expression_asked, names_asked};
+ghost use Rattle.program.specs.declared.question.Side.TheVariants.{Above, Below};
+ghost use Rattle.answers.specs.declared.selection.Selection.TheVariants as asked;
+ghost use Rattle.answers.specs.Selections.{FollowsFor, expression_asked, names_asked};
 ghost use Rattle.axioms.specs.Expression.{Iri};
 ghost use Rattle.closure.specs.Closure.{Expression, IsRoot};
 ghost use Rattle.std.specs.Prelude.{◌↔◌, ◌≡◌, Contains, IfOk, IfSome, IsSome, length, map};
@@ -12,16 +12,16 @@ ghost use Rattle.std.specs.Prelude.{◌↔◌, ◌≡◌, Contains, IfOk, IfSome
 use crate::groups::groups_of;
 use crate::lists_above::lists_above;
 use crate::marks::{apart, are_few, below_among, both, has_mark, marks_of};
-use crate::named::class_named;
 use crate::names::names_in_order;
-use crate::nearest::{Side, far_marks};
-use crate::question::Question;
+use crate::nearest::far_marks;
+use crate::selection::Selection;
 use axioms::{ExprId, Memory, Ontology};
 use engine::Indexed;
+use program::Side;
 use std::alloc::Global;
 
 /// Marks on the named classes that answer the question.
-fn class_marks(indexed: &Indexed<'_>, question: Question) -> Result<Vec<bool>, Memory>
+fn class_marks(indexed: &Indexed<'_>, question: Selection) -> Result<Vec<bool>, Memory>
     requires root { IsRoot indexed.now.ontology indexed.now.saturation.normal.asked (Expression (expression_asked question)) }
     requires classes { names_asked indexed.now.ontology question ≡ indexed.now.ontology.names.classes }
     ensures { IfOk result (λ v. AreMarksOf indexed.now.ontology.names.classes (FollowsFor indexed.now.ontology question) v.items) }
@@ -59,7 +59,7 @@ fn marks_below(
     if are_few(closed, marked) {
         below_among(indexed, expression, marks)
     } else {
-        class_marks(indexed, Question::Below(expression))
+        class_marks(indexed, Selection::Below(expression))
     }
 }
 
@@ -68,7 +68,7 @@ fn marks_strictly_above(indexed: &Indexed<'_>, class: ExprId) -> Result<Vec<bool
     requires root { IsRoot indexed.now.ontology indexed.now.saturation.normal.asked (Expression class.0) }
     ensures { IfOk result (λ v. (name : Iri) → IsClassNamed indexed.now.ontology name class.0 → AreMarksOf indexed.now.ontology.names.classes (IsNearer indexed.now.ontology Above name) v.items) }
 {
-    let above = class_marks(indexed, Question::Above(class))?;
+    let above = class_marks(indexed, Selection::Above(class))?;
     let below = marks_below(indexed, &above, class)?;
     apart(indexed.closed().allocator(), &above, &below)
 }
@@ -78,8 +78,8 @@ fn marks_strictly_below(indexed: &Indexed<'_>, class: ExprId) -> Result<Vec<bool
     requires root { IsRoot indexed.now.ontology indexed.now.saturation.normal.asked (Expression class.0) }
     ensures { IfOk result (λ v. (name : Iri) → IsClassNamed indexed.now.ontology name class.0 → AreMarksOf indexed.now.ontology.names.classes (IsNearer indexed.now.ontology Below name) v.items) }
 {
-    let above = class_marks(indexed, Question::Above(class))?;
-    let below = class_marks(indexed, Question::Below(class))?;
+    let above = class_marks(indexed, Selection::Above(class))?;
+    let below = class_marks(indexed, Selection::Below(class))?;
     apart(indexed.closed().allocator(), &below, &above)
 }
 
@@ -136,64 +136,46 @@ fn groups_below<'a>(indexed: &Indexed<'a>, marks: &[bool]) -> Result<Vec<Vec<&'a
     }
 }
 
-/// The IRIs of the named classes that are the same as the class in every finite interpretation in which the axioms hold, the class
-/// among them, in byte order. In an ontology that no such interpretation has, these are all its named classes. `None` where the
-/// ontology has no class of that name.
-///
-/// # Errors
-///
-/// `Memory` where memory was refused.
-pub fn equivalents<'a>(indexed: &Indexed<'a>, class: &str) -> Result<Option<Vec<&'a str>>, Memory>
-    ensures known { IfOk result (λ answer. IsSome answer ↔ Contains indexed.now.ontology.names.classes class.now) }
-    ensures exact { IfOk result (λ answer. IfSome answer
-        (λ v. AreThose indexed.now.ontology.names.classes (AreSame indexed.now.ontology class.now) (map (λ s. s.now) v.items))) }
+/// The named classes that are the same as the class, itself among them, in byte order.
+pub(crate) fn equivalents_of<'a>(
+    indexed: &Indexed<'a>,
+    class: ExprId,
+) -> Result<Vec<&'a str>, Memory>
+    requires { (name : Iri) × IsClassNamed indexed.now.ontology name class.0 }
+    ensures { IfOk result (λ v. (name : Iri) → IsClassNamed indexed.now.ontology name class.0 →
+        AreThose indexed.now.ontology.names.classes (AreSame indexed.now.ontology name) (map (λ s. s.now) v.items)) }
 {
-    let Some(class) = class_named(indexed, class) else {
-        return Ok(None);
-    };
-    let above = class_marks(indexed, Question::Above(class))?;
+    let above = class_marks(indexed, Selection::Above(class))?;
     let below = marks_below(indexed, &above, class)?;
     let same = both(indexed.closed().allocator(), &above, &below)?;
     let names = classes_marked(indexed, &same)?;
-    Ok(Some(names))
+    Ok(names)
 }
 
-/// The IRIs of the named classes directly above the class in every finite interpretation in which the axioms hold: they lie above
-/// it, it does not lie above them, and no named class lies strictly between. Those that are the same as one another are one group;
-/// each group is in byte order, and the groups are in the order of their first names. In an ontology that no such interpretation has,
-/// there are none. `None` where the ontology has no class of that name.
-///
-/// # Errors
-///
-/// `Memory` where memory was refused.
-pub fn parents<'a>(indexed: &Indexed<'a>, class: &str) -> Result<Option<Vec<Vec<&'a str>>>, Memory>
-    ensures known { IfOk result (λ answer. IsSome answer ↔ Contains indexed.now.ontology.names.classes class.now) }
-    ensures exact { IfOk result (λ answer. IfSome answer
-        (λ v. AreGroups indexed.now.ontology (LiesDirectlyBelow indexed.now.ontology class.now) (groups_in v.items))) }
+/// The named classes directly above the class: they lie above it, it does not lie above them, and no named class lies strictly between.
+pub(crate) fn directly_above<'a>(
+    indexed: &Indexed<'a>,
+    class: ExprId,
+) -> Result<Vec<Vec<&'a str>>, Memory>
+    requires { (name : Iri) × IsClassNamed indexed.now.ontology name class.0 }
+    ensures { IfOk result (λ v. (name : Iri) → IsClassNamed indexed.now.ontology name class.0 →
+        AreGroups indexed.now.ontology (LiesDirectlyBelow indexed.now.ontology name) (groups_in v.items)) }
 {
-    let Some(class) = class_named(indexed, class) else {
-        return Ok(None);
-    };
     let marks = marks_strictly_above(indexed, class)?;
     let groups = nearest_groups(indexed, &marks, Side::Above)?;
-    Ok(Some(groups))
+    Ok(groups)
 }
 
-/// The IRIs of the named classes directly below the class, in groups as those of `parents`. In an ontology that no finite
-/// interpretation has, there are none. `None` where the ontology has no class of that name.
-///
-/// # Errors
-///
-/// `Memory` where memory was refused.
-pub fn children<'a>(indexed: &Indexed<'a>, class: &str) -> Result<Option<Vec<Vec<&'a str>>>, Memory>
-    ensures known { IfOk result (λ answer. IsSome answer ↔ Contains indexed.now.ontology.names.classes class.now) }
-    ensures exact { IfOk result (λ answer. IfSome answer
-        (λ v. AreGroups indexed.now.ontology (λ name. LiesDirectlyBelow indexed.now.ontology name class.now) (groups_in v.items))) }
+/// The named classes directly below the class, likewise.
+pub(crate) fn directly_below<'a>(
+    indexed: &Indexed<'a>,
+    class: ExprId,
+) -> Result<Vec<Vec<&'a str>>, Memory>
+    requires { (name : Iri) × IsClassNamed indexed.now.ontology name class.0 }
+    ensures { IfOk result (λ v. (name : Iri) → IsClassNamed indexed.now.ontology name class.0 →
+        AreGroups indexed.now.ontology (λ other. LiesDirectlyBelow indexed.now.ontology other name) (groups_in v.items)) }
 {
-    let Some(class) = class_named(indexed, class) else {
-        return Ok(None);
-    };
     let marks = marks_strictly_below(indexed, class)?;
     let groups = groups_below(indexed, &marks)?;
-    Ok(Some(groups))
+    Ok(groups)
 }

@@ -20,7 +20,7 @@ use Rattle.session.proofs.Calls.{edits_are_one_document}
 use Rattle.session.proofs.Told.{progress_behind}
 use Rattle.session.specs.Answers.{IsWritten}
 use Rattle.session.specs.Devices.{Device, Takes, seen}
-use Rattle.session.specs.Edits.{Reply, Added, Resumed, Named, Grouped, Explained, Found, Written, Resume, IsCall, IsOneDocument, IsSessionOver}
+use Rattle.session.specs.Edits.{Reply, Added, Resumed, Answered, Found, Written, Resume, IsCall, IsOneDocument, IsSessionOver}
 use Rattle.session.specs.Progress.{IsProgress}
 use Rattle.session.specs.Sessions.{IsSession, KeepsText, Opened}
 use Rattle.session.specs.WrittenTexts.{Sinks}
@@ -149,9 +149,7 @@ run_on limits same old mid new most is begun below (reply, call) session = IsRun
 kept_by : (mid new : Opened) (most : ℕ) (reply : Reply) → IsCall mid (Resume most) reply new → KeepsText mid new
 kept_by mid new most (Added answer) call = absurd call
 kept_by mid new most (Resumed answer) call = call.1
-kept_by mid new most (Named answer) call = absurd call
-kept_by mid new most (Grouped answer) call = absurd call
-kept_by mid new most (Explained answer) call = absurd call
+kept_by mid new most (Answered answer) call = absurd call
 kept_by mid new most (Found answer) call = absurd call
 kept_by mid new most (Written after answer) call = absurd call
 
@@ -166,18 +164,7 @@ kept_on old mid new most kept (reply, call) =
 adds_none : (command : Command) (texts : TextPaths) (status : Status) (payload : List ℕ) → text_paths command ≡ Some texts → told_added (Some command) status payload ≡ []
 adds_none (asked.Add size) texts status payload is = absurd (cc)
 adds_none asked.Run texts status payload is = refl
-adds_none (asked.Supers class) texts status payload is = refl
-adds_none (asked.Subs class) texts status payload is = refl
-adds_none (asked.Equivalents class) texts status payload is = refl
-adds_none (asked.Parents class) texts status payload is = refl
-adds_none (asked.Children class) texts status payload is = refl
-adds_none (asked.Instances class) texts status payload is = refl
-adds_none (asked.Why subject class) texts status payload is = refl
-adds_none (asked.WhyIndividual subject class) texts status payload is = refl
-adds_none (asked.Dot subject class) texts status payload is = refl
-adds_none (asked.WhyReached subject class) texts status payload is = refl
-adds_none (asked.WhyIndividualReached subject class) texts status payload is = refl
-adds_none (asked.DotReached subject class) texts status payload is = refl
+adds_none (asked.Ask question) texts status payload is = refl
 adds_none (asked.Query size) texts status payload is = refl
 adds_none (asked.Write paths) texts status payload is = refl
 adds_none (asked.Axiom number) texts status payload is = refl

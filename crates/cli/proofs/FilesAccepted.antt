@@ -1,16 +1,16 @@
 -- What a run of `classify` leaves in files is accepted by a run of `check`; and which runs words ask for.
-use Rattle.std.proofs.Common.{◌≡◌, ◌∙◌, ℕ, List, Bool, Option, Result, Ok, Err, Some, true, false, codes, refl, sym, ap, subst, inl, inr, arith, ◌+◌}
+use Rattle.std.proofs.Common.{◌≡◌, ◌∙◌, ℕ, List, Bool, Option, Result, Ok, Err, Some, true, false, codes, refl, sym, ap, subst, inl, inr}
+use Rattle.std.specs.Prelude.{◌||◌, bytes_eq}
 use Rattle.lemmas.proofs.Choices.{one_value}
 use Rattle.cert_check.specs.declared.verdict.Verdict.{Verdict}
 use Rattle.cert_check.specs.declared.verdict.Verdict.TheVariants.{Accepted}
 use Rattle.axioms.specs.Ontology.{Ontology}
 use Rattle.certificate.specs.declared.format.Format.{Format}
 use Rattle.clap.specs.Words.{Row, Text, takes}
-use Rattle.command_line.proofs.NoTask.{one_letter}
 use Rattle.command_line.proofs.Numbers.{one_number}
-use Rattle.command_line.specs.CommandLine.{AreLimits, ArePaths, IsCommand, IsFormat, IsLimitOfFacts, IsTaskOf, IsFlag, IsTelling, IsVersion, Refuses, draws_facts, elc_app, format_number, tells_progress, version_number}
+use Rattle.command_line.specs.CommandLine.{AreLimits, ArePaths, IsCommand, IsFormat, IsLimitOfFacts, IsQuestion, IsTaskOf, IsFlag, IsTelling, IsVersion, Refuses, draws_facts, elc_app, format_number, tells_progress, version_number}
 use Rattle.command_line.specs.declared.tasks.Command.{Command}
-use Rattle.command_line.specs.declared.tasks.Command.TheVariants.{Check, Classify, Convert, Explain, Instances, Query, Session}
+use Rattle.command_line.specs.declared.tasks.Command.TheVariants.{Ask, Check, Classify, Convert, Query, Session}
 use Rattle.command_line.specs.declared.tasks.FormatNumber.{FormatNumber}
 use Rattle.command_line.specs.declared.tasks.FormatNumber.TheVariants as numbers
 use Rattle.command_line.specs.declared.tasks.LineFault.{LineFault}
@@ -36,6 +36,10 @@ use Rattle.cli.specs.declared.fault.ClassifyFault.TheVariants as classifying
 use Rattle.classification.specs.declared.classification.Summary.{Summary}
 use Rattle.profile.specs.Messages.{status_of}
 use Rattle.program.specs.declared.limits.Limits.{Limits}
+use Rattle.program.specs.declared.question.Question.{Question}
+use Rattle.program.specs.declared.question.Question.TheVariants.{Groups, Names, Why}
+use Rattle.program.specs.declared.question.Related.TheVariants.{Equivalents, Instances, Subclasses, Superclasses}
+use Rattle.program.specs.declared.question.Side.TheVariants.{Above, Below}
 use Rattle.program.specs.Status.{code_of}
 use Rattle.program.specs.declared.status.Status.{Status}
 use Rattle.program.specs.declared.status.Status.TheVariants as statuses
@@ -136,33 +140,55 @@ same_format numbers.Two numbers.One e = let bad : 2 ≡ 1 = e in absurd (cc)
 one_format : (rows : List Row) (v w : FormatNumber) → IsFormat rows v → IsFormat rows w → v ≡ w
 one_format rows v w h k = same_format v w (one_number _ _ _ _ h k)
 
+-- whether the name is one of these two
+abbrev is_one_of_two : Text → Bool
+is_one_of_two name = bytes_eq name (codes "classify") || bytes_eq name (codes "check")
+
+-- that of a question is none of them
+asks : (name : Text) (rows : List Row) (question : Question) → IsQuestion name rows question → is_one_of_two name ≡ false
+asks name rows (Names Superclasses class) is = ap is_one_of_two is.0
+asks name rows (Names Subclasses class) is = ap is_one_of_two is.0
+asks name rows (Names Equivalents class) is = ap is_one_of_two is.0
+asks name rows (Names Instances class) is = ap is_one_of_two is.0
+asks name rows (Groups Above class) is = ap is_one_of_two is.0
+asks name rows (Groups Below class) is = ap is_one_of_two is.0
+asks name rows (Why asked class shown) is = ap is_one_of_two is.0
+
+-- a command of the name `classify` is a classification
+is_classify : (name : Text) (rows : List Row) (command : Command) → name ≡ codes "classify" → IsCommand name rows command → (paths : Paths) × (number : FormatNumber) × (command ≡ Classify paths number)
+is_classify name rows (Classify paths number) is is' = (paths, number, refl)
+is_classify name rows (Check paths) is is' = let bad : codes "classify" ≡ codes "check" = sym is ∙ is'.0 in absurd (cc)
+is_classify name rows (Convert conversion) is is' = let bad : true ≡ false = sym (ap is_one_of_two is) ∙ ap is_one_of_two is'.0 in absurd (cc)
+is_classify name rows (Ask document question) is is' = let bad : true ≡ false = sym (ap is_one_of_two is) ∙ asks name rows question is'.1 in absurd (cc)
+is_classify name rows (Query document expression) is is' = let bad : true ≡ false = sym (ap is_one_of_two is) ∙ ap is_one_of_two is'.0 in absurd (cc)
+is_classify name rows (Session document) is is' = let bad : true ≡ false = sym (ap is_one_of_two is) ∙ ap is_one_of_two is'.0 in absurd (cc)
+
 -- what a run of a command says that the words of `classify` ask for
 classify_run : (told : Bool) (name : Text) (rows : List Row) (paths : Paths) (number : FormatNumber) (command : Command) (limits : Limits) (s : Store) (content content' : Content) (old new : Output) (status : ℕ) → IsCommand name rows (Classify paths number) → IsCommand name rows command → IsCommandRun told command limits s content content' old new status → (paths' : Paths) × (format : Format) × AreSamePaths paths paths' × IsClassifyRun paths' format limits s content content' old new status × (format ≡ format_of number)
-classify_run told name rows paths number (Classify paths' number') limits s content content' old new status is is' run = (paths', format_of number', same_paths rows paths paths' is.1 is'.1, run, ap format_of (one_format rows number' number is'.2 is.2))
-classify_run told name rows paths number (Check paths') limits s content content' old new status is is' run = let bad : 108 ≡ 104 = one_letter name rows (Classify paths number) (Check paths') is is' in absurd (cc)
-classify_run told name rows paths number (Convert conversion) limits s content content' old new status is is' run = let bad : 108 ≡ 111 = one_letter name rows (Classify paths number) (Convert conversion) is is' in absurd (cc)
-classify_run told name rows paths number (Instances document class) limits s content content' old new status is is' run = let bad : 108 ≡ 110 = one_letter name rows (Classify paths number) (Instances document class) is is' in absurd (cc)
-classify_run told name rows paths number (Explain question) limits s content content' old new status is is' run = let bad : 108 ≡ 120 = one_letter name rows (Classify paths number) (Explain question) is is' in absurd (cc)
-classify_run told name rows paths number (Query document expression) limits s content content' old new status is is' run = let bad : 108 ≡ 117 = one_letter name rows (Classify paths number) (Query document expression) is is' in absurd (cc)
-classify_run told name rows paths number (Session document) limits s content content' old new status is is' run = let bad : 108 ≡ 101 = one_letter name rows (Classify paths number) (Session document) is is' in absurd (cc)
+classify_run told name rows paths number command limits s content content' old new status is is' run =
+    let found = is_classify name rows command is.0 is' in
+    let Of : Command → Type 0 = λ c. IsCommand name rows c in
+    let Run : Command → Type 0 = λ c. IsCommandRun told c limits s content content' old new status in
+    let here : IsCommand name rows (Classify found.0 found.1) = subst Of found.2 is' in
+    (found.0, format_of found.1, same_paths rows paths found.0 is.1 here.1, subst Run found.2 run, ap format_of (one_format rows found.1 number here.2 is.2))
 
--- the second letter of `check` comes before those of most other commands
-before : (d : ℕ) → ◌≡◌ {A = ℕ} 104 (105 + d) → ⊥
-before d e = omega (arith, e)
-
--- and behind that of `session`
-earlier : ◌≡◌ {A = ℕ} 104 101 → ⊥
-earlier e = omega (arith, e)
+-- a command of the name `check` is a check
+is_check : (name : Text) (rows : List Row) (command : Command) → name ≡ codes "check" → IsCommand name rows command → (paths : Paths) × (command ≡ Check paths)
+is_check name rows (Check paths) is is' = (paths, refl)
+is_check name rows (Classify paths number) is is' = let bad : codes "check" ≡ codes "classify" = sym is ∙ is'.0 in absurd (cc)
+is_check name rows (Convert conversion) is is' = let bad : true ≡ false = sym (ap is_one_of_two is) ∙ ap is_one_of_two is'.0 in absurd (cc)
+is_check name rows (Ask document question) is is' = let bad : true ≡ false = sym (ap is_one_of_two is) ∙ asks name rows question is'.1 in absurd (cc)
+is_check name rows (Query document expression) is is' = let bad : true ≡ false = sym (ap is_one_of_two is) ∙ ap is_one_of_two is'.0 in absurd (cc)
+is_check name rows (Session document) is is' = let bad : true ≡ false = sym (ap is_one_of_two is) ∙ ap is_one_of_two is'.0 in absurd (cc)
 
 -- what a run of a command says that the words of `check` ask for
 check_run : (told : Bool) (name : Text) (rows : List Row) (paths : Paths) (command : Command) (limits : Limits) (s : Store) (content content' : Content) (old new : Output) (status : ℕ) → IsCommand name rows (Check paths) → IsCommand name rows command → IsCommandRun told command limits s content content' old new status → (paths' : Paths) × AreSamePaths paths paths' × IsCheckRun paths' limits.version limits.max_bytes s content old new status × (tells_progress command ≡ true)
-check_run told name rows paths (Check paths') limits s content content' old new status is is' run = (paths', same_paths rows paths paths' is.1 is'.1, run, refl)
-check_run told name rows paths (Classify paths' number') limits s content content' old new status is is' run = absurd (before 3 (one_letter name rows (Check paths) (Classify paths' number') is is'))
-check_run told name rows paths (Convert conversion) limits s content content' old new status is is' run = absurd (before 6 (one_letter name rows (Check paths) (Convert conversion) is is'))
-check_run told name rows paths (Instances document class) limits s content content' old new status is is' run = absurd (before 5 (one_letter name rows (Check paths) (Instances document class) is is'))
-check_run told name rows paths (Explain question) limits s content content' old new status is is' run = absurd (before 15 (one_letter name rows (Check paths) (Explain question) is is'))
-check_run told name rows paths (Query document expression) limits s content content' old new status is is' run = absurd (before 12 (one_letter name rows (Check paths) (Query document expression) is is'))
-check_run told name rows paths (Session document) limits s content content' old new status is is' run = absurd (earlier (one_letter name rows (Check paths) (Session document) is is'))
+check_run told name rows paths command limits s content content' old new status is is' run =
+    let found = is_check name rows command is.0 is' in
+    let Of : Command → Type 0 = λ c. IsCommand name rows c in
+    let Run : Command → Type 0 = λ c. IsCommandRun told c limits s content content' old new status in
+    let here : IsCommand name rows (Check found.0) = subst Of found.1 is' in
+    (found.0, same_paths rows paths found.0 is.1 here.1, subst Run found.1 run, ap tells_progress found.1)
 
 same_version : (v w : Version) → version_number v ≡ version_number w → v ≡ w
 same_version One One e = refl
@@ -223,26 +249,6 @@ words_check words task paths s content content' old new status of is taken (inl 
     inl (record { begun = behind.begun; unprinted = behind.unprinted; progress = subst Q k.3 behind.progress; holds = (k.0, k.1, k.2) })
 words_check words task paths s content content' old new status of is taken (inr run) = inr (run.2, refused_told words task run.0 old.err new.err status of taken run.1 run.3)
 
--- a flag that a classification has
-classify_telling : (told : Bool) (name : Text) (rows : List Row) (paths : Paths) (number : FormatNumber) (command : Command) → IsCommand name rows (Classify paths number) → IsCommand name rows command → tells_progress command ≡ true
-classify_telling told name rows paths number (Classify paths' number') is is' = refl
-classify_telling told name rows paths number (Check paths') is is' = refl
-classify_telling told name rows paths number (Session document) is is' = refl
-classify_telling told name rows paths number (Convert conversion) is is' = let bad : 108 ≡ 111 = one_letter name rows (Classify paths number) (Convert conversion) is is' in absurd (cc)
-classify_telling told name rows paths number (Instances document class) is is' = let bad : 108 ≡ 110 = one_letter name rows (Classify paths number) (Instances document class) is is' in absurd (cc)
-classify_telling told name rows paths number (Explain question) is is' = let bad : 108 ≡ 120 = one_letter name rows (Classify paths number) (Explain question) is is' in absurd (cc)
-classify_telling told name rows paths number (Query document expression) is is' = let bad : 108 ≡ 117 = one_letter name rows (Classify paths number) (Query document expression) is is' in absurd (cc)
-
--- a limit that a classification has
-classify_draws : (told : Bool) (name : Text) (rows : List Row) (paths : Paths) (number : FormatNumber) (command : Command) → IsCommand name rows (Classify paths number) → IsCommand name rows command → draws_facts command ≡ true
-classify_draws told name rows paths number (Classify paths' number') is is' = refl
-classify_draws told name rows paths number (Check paths') is is' = let bad : 108 ≡ 104 = one_letter name rows (Classify paths number) (Check paths') is is' in absurd (cc)
-classify_draws told name rows paths number (Session document) is is' = refl
-classify_draws told name rows paths number (Convert conversion) is is' = let bad : 108 ≡ 111 = one_letter name rows (Classify paths number) (Convert conversion) is is' in absurd (cc)
-classify_draws told name rows paths number (Instances document class) is is' = let bad : 108 ≡ 110 = one_letter name rows (Classify paths number) (Instances document class) is is' in absurd (cc)
-classify_draws told name rows paths number (Explain question) is is' = let bad : 108 ≡ 120 = one_letter name rows (Classify paths number) (Explain question) is is' in absurd (cc)
-classify_draws told name rows paths number (Query document expression) is is' = let bad : 108 ≡ 117 = one_letter name rows (Classify paths number) (Query document expression) is is' in absurd (cc)
-
 pub words_classify : WordsOfClassifyClassify
 words_classify words task paths number s content content' old new status of is taken (inl run) =
     let behind = run.2 in
@@ -251,11 +257,12 @@ words_classify words task paths number s content content' old new status of is t
     let here = named words task other (Classify paths number) of' of is in
     let made = classify_run other.progress of'.name of'.rows paths number other.command other.limits s content content' behind.begun new status here.is of'.is.command behind.holds in
     let R : Bool → Type 0 = λ tells. IsTelling tells of'.rows other.progress in
-    let tells : tells_progress other.command ≡ true = classify_telling true of'.name of'.rows paths number other.command here.is of'.is.command in
+    let classifies = (is_classify of'.name of'.rows other.command here.is.0 of'.is.command).2 in
+    let tells : tells_progress other.command ≡ true = ap tells_progress classifies in
     let same : other.progress ≡ task.progress = one_flag (codes "progress") of'.rows other.progress task.progress (subst R tells of'.is.progress) here.progress in
     let Q : Bool → Type 0 = λ told. IsProgress told old.err behind.begun.err in
     let U : Bool → Type 0 = λ draws. IsLimitOfFacts draws of'.rows other.limits.max_facts in
-    let draws : draws_facts other.command ≡ true = classify_draws true of'.name of'.rows paths number other.command here.is of'.is.command in
+    let draws : draws_facts other.command ≡ true = ap draws_facts classifies in
     let facts = subst U draws of'.is.limits.facts in
     let same_limits : AreSameLimits other.limits task.limits = record {
       bytes = one_number _ _ _ _ of'.is.limits.bytes.number here.limits.bytes.number;

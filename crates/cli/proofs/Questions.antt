@@ -8,23 +8,19 @@ use Rattle.axioms.specs.declared.terms.Kind.{Kind}
 use Rattle.cli.proofs.Kept.{opens_file, reads_file, refuses_file}
 use Rattle.profile.specs.declared.opened.Opened.{Opened}
 use Rattle.program.specs.declared.limits.Limits.{Limits}
+use Rattle.program.specs.declared.question.Question.{Question}
 use Rattle.program.specs.declared.version.Version.{Version}
-use Rattle.session.specs.TextAnswers.{AnswersInstances, AnswersExplanation, AnswersQuery, IsFaultOf, IsQueryFaultOf, IsReadAs, IsRunAs, LeavesUnanswered}
+use Rattle.session.specs.TextAnswers.{AnswersQuery, AnswersQuestion, IsFaultOf, IsQueryFaultOf, IsReadAs, IsRunAs, LeavesUnanswered}
 use Rattle.session.specs.declared.question_fault.QuestionFault.{QuestionFault}
 use Rattle.session.specs.declared.question_fault.QuestionFault.TheVariants.{Document, Limit, UnknownName, Expression, Memory}
 use Rattle.session.specs.declared.query_fault.QueryFault.{QueryFault}
 use Rattle.session.specs.declared.query_fault.QueryFault.TheVariants as querying
-use Rattle.session.specs.declared.form.Form.{Form}
-use Rattle.answers.specs.declared.asked.Asked.{Asked}
 
 read_as_file : (version : Version) (file left : Option (List ℕ)) (most : ℕ) (o : Ontology) → Keeps file left → IsReadAs version most left o → IsReadAs version most file o
 read_as_file version file left most o kept is = record { reads = reads_file version file left most o kept is.reads; taken = is.taken }
 
-pub instances_of_file : (file left : Option (List ℕ)) (limits : Limits) (class text : List ℕ) → Keeps file left → AnswersInstances limits left class text → AnswersInstances limits file class text
-instances_of_file file left limits class text kept is = (is.0, read_as_file limits.version file left limits.max_bytes is.0 kept is.1, is.2, is.3)
-
-pub why_of_file : (file left : Option (List ℕ)) (limits : Limits) (asked : Asked) (class : List ℕ) (form : Form) (text : List ℕ) → Keeps file left → AnswersExplanation limits left asked class form text → AnswersExplanation limits file asked class form text
-why_of_file file left limits asked class form text kept is = (is.0, read_as_file limits.version file left limits.max_bytes is.0 kept is.1, is.2, is.3)
+answer_of_file : (file left : Option (List ℕ)) (limits : Limits) (question : Question) (text : List ℕ) → Keeps file left → AnswersQuestion limits left question text → AnswersQuestion limits file question text
+answer_of_file file left limits question text kept is = (is.0, read_as_file limits.version file left limits.max_bytes is.0 kept is.1, is.2, is.3)
 
 pub question_fault_of_file : (file left : Option (List ℕ)) (limits : Limits) (names : List (Kind × Iri)) (fault : QuestionFault) → Keeps file left → IsFaultOf limits left names fault → IsFaultOf limits file names fault
 question_fault_of_file file left limits names (Document fault) kept is = refuses_file limits.version file left limits.max_bytes fault kept is
@@ -54,13 +50,9 @@ query_fault_of_file file left limits text Memory kept is = (is.0, read_as_file l
 
 -- ---- whole answers about a source's bytes are about those of its file
 
-pub instances_in_file : (answer : Result (Vec ℕ) QuestionFault) (file left : Option (List ℕ)) (limits : Limits) (class : List ℕ) → Keeps file left → IfOk answer (λ v. AnswersInstances limits left class v.items) → IfOk answer (λ v. AnswersInstances limits file class v.items)
-instances_in_file (Ok v) file left limits class kept is = instances_of_file file left limits class v.items kept is
-instances_in_file (Err fault) file left limits class kept is = tt
-
-pub why_in_file : (answer : Result (Vec ℕ) QuestionFault) (file left : Option (List ℕ)) (limits : Limits) (asked : Asked) (class : List ℕ) (form : Form) → Keeps file left → IfOk answer (λ v. AnswersExplanation limits left asked class form v.items) → IfOk answer (λ v. AnswersExplanation limits file asked class form v.items)
-why_in_file (Ok v) file left limits asked class form kept is = why_of_file file left limits asked class form v.items kept is
-why_in_file (Err fault) file left limits asked class form kept is = tt
+pub answer_in_file : (answer : Result (Vec ℕ) QuestionFault) (file left : Option (List ℕ)) (limits : Limits) (question : Question) → Keeps file left → IfOk answer (λ v. AnswersQuestion limits left question v.items) → IfOk answer (λ v. AnswersQuestion limits file question v.items)
+answer_in_file (Ok v) file left limits question kept is = answer_of_file file left limits question v.items kept is
+answer_in_file (Err fault) file left limits question kept is = tt
 
 pub fault_in_file : (answer : Result (Vec ℕ) QuestionFault) (file left : Option (List ℕ)) (limits : Limits) (names : List (Kind × Iri)) → Keeps file left → IfErr answer (IsFaultOf limits left names) → IfErr answer (IsFaultOf limits file names)
 fault_in_file (Ok v) file left limits names kept is = tt

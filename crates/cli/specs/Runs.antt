@@ -1,18 +1,17 @@
 -- What a run of the program does.
-use Rattle.std.specs.Prelude.{◌≡◌, ℕ, ◌⊎◌, List, [], ◌∷◌, Bool, true, false, if◌then◌else◌, Option, Result, Ok, Err, ◌++◌, codes}
+use Rattle.std.specs.Prelude.{◌≡◌, ℕ, ◌⊎◌, List, Bool, true, false, Option, Result, Ok, Err, ◌++◌, codes}
 use Rattle.certificate.specs.declared.format.Format.{Format}
 use Rattle.certificate.specs.declared.format.Format.TheVariants.{One, Two}
 use Rattle.classification.specs.declared.classification.Summary.{Summary}
 use Rattle.clap.specs.Words.{Text}
 use Rattle.command_line.specs.CommandLine.{IsTaskOf, Refuses}
 use Rattle.command_line.specs.declared.tasks.Command.{Command}
-use Rattle.command_line.specs.declared.tasks.Command.TheVariants.{Check, Classify, Convert, Explain, Instances, Query, Session}
+use Rattle.command_line.specs.declared.tasks.Command.TheVariants.{Ask, Check, Classify, Convert, Query, Session}
 use Rattle.command_line.specs.declared.tasks.Conversion.{Conversion}
 use Rattle.command_line.specs.declared.tasks.FormatNumber.{FormatNumber}
 use Rattle.command_line.specs.declared.tasks.FormatNumber.TheVariants as numbers
 use Rattle.command_line.specs.declared.tasks.LineFault.{LineFault}
 use Rattle.command_line.specs.declared.tasks.Paths.{Paths}
-use Rattle.command_line.specs.declared.tasks.Question.{Question}
 use Rattle.command_line.specs.declared.tasks.Task.{Task}
 use Rattle.certificate_text.specs.declared.conversion.ConvertFault.{ConvertFault}
 use Rattle.certificate_text.specs.declared.conversion.ConvertFault.TheVariants as converting
@@ -24,6 +23,8 @@ use Rattle.profile.specs.Messages.{status_of}
 use Rattle.program.specs.Status.{code_of}
 use Rattle.std.specs.Fmt.{decimal}
 use Rattle.std.specs.Global.{Vec}
+use Rattle.answers.specs.Questions.{names_in}
+use Rattle.program.specs.declared.question.Question.{Question}
 use Rattle.cli.specs.Files.{AsksFile, ChecksFiles, ClassifiesFile, ConvertsFiles, Store, store}
 use Rattle.cli.specs.Messages.{BehindProgress, Output, IsAnswered, IsPrinted, IsTold, cannot_write, out_of_memory, rejected_text, unconverted_text, verdict_text, verdict_status, outputs, summary_text, IsCheckText, check_status, IsClassifyText, classify_status, IsLineTold}
 use Rattle.speech.specs.Messages.{IsDocumentText, IsQuestionText, cannot_read, question_status}
@@ -41,13 +42,8 @@ use Rattle.program.specs.declared.limits.Limits.{Limits}
 use Rattle.program.specs.declared.status.Status.TheVariants as statuses
 use Rattle.program.specs.declared.version.Version.{Version}
 use Rattle.session.specs.TextAnswers as asking
-use Rattle.session.specs.TextAnswers.{AnswersInstances, AnswersExplanation, AnswersQuery}
+use Rattle.session.specs.TextAnswers.{AnswersQuery, AnswersQuestion}
 use Rattle.session.specs.declared.question_fault.QuestionFault.{QuestionFault}
-use Rattle.session.specs.declared.form.Form.{Form}
-use Rattle.session.specs.declared.form.Form.TheVariants.{Graph, Lines, Reached, ReachedGraph}
-use Rattle.answers.specs.declared.asked.Asked.{Asked}
-use Rattle.answers.specs.declared.asked.Asked.TheVariants.{Class, Individual}
-use Rattle.session.specs.Answers.{class_name, subject_name}
 use Rattle.system_files.specs.Contents.{Content}
 use Rattle.system_files.specs.declared.files.Files as files
 
@@ -156,35 +152,12 @@ IsQuestionTold path limits (Ok text) old new status = IsAnswered old new text.it
 IsQuestionTold path limits (Err fault) old new status =
     (new.out ≡ old.out) × IsTold old.err new.err (IsQuestionText path limits.max_bytes limits.max_facts fault) (question_status fault) status
 
--- a run of `instances`: the individuals of the class are printed; or a fault is told
-pub record IsInstancesRun (path class : List ℕ) (limits : Limits) (s : Store) (content : Content) (old new : Output) (status : ℕ) : Type 0 where
+-- a run that asks a question: its answer is printed; or a fault is told
+pub record IsAskRun (path : List ℕ) (question : Question) (limits : Limits) (s : Store) (content : Content) (old new : Output) (status : ℕ) : Type 0 where
   pub answer : Result (Vec ℕ) QuestionFault
-  pub answered : IsQuestionAnswer (AnswersInstances limits (content path) class) (asking.IsFaultOf limits (content path) (class_name class ∷ [])) answer
+  pub answered : IsQuestionAnswer (AnswersQuestion limits (content path) question) (asking.IsFaultOf limits (content path) (names_in question)) answer
   pub blames : AsksFile s.reads_fail s.is_known (content path) answer
   pub told : IsQuestionTold path limits answer old new status
-
--- what a question asks about
-abbrev pub asked_by : Question → Asked
-asked_by q = if q.individual then Individual q.subject else Class q.subject
-
--- in which form a question is answered
-abbrev pub form_of : Question → Form
-form_of q = if q.reached then (if q.dot then ReachedGraph else Reached) else (if q.dot then Graph else Lines)
-
--- the text says why the subject of the question is in the class, or is not, by a document
-abbrev pub ExplainsFor : Limits → (document : Option (List ℕ)) → Question → (text : List ℕ) → Type 0
-ExplainsFor limits document q text = AnswersExplanation limits document (asked_by q) q.class.now (form_of q) text
-
--- what a fault says of the document and of the names in the question
-abbrev pub IsFaultFor : Limits → (document : Option (List ℕ)) → Question → QuestionFault → Type 0
-IsFaultFor limits document q fault = asking.IsFaultOf limits document (subject_name (asked_by q) ∷ class_name q.class.now ∷ []) fault
-
--- a run of `explain`: why the subject is in the class, or is not, is printed; or a fault is told
-pub record IsExplainRun (q : Question) (limits : Limits) (s : Store) (content : Content) (old new : Output) (status : ℕ) : Type 0 where
-  pub answer : Result (Vec ℕ) QuestionFault
-  pub answered : IsQuestionAnswer (ExplainsFor limits (content q.document.now) q) (IsFaultFor limits (content q.document.now) q) answer
-  pub blames : AsksFile s.reads_fail s.is_known (content q.document.now) answer
-  pub told : IsQuestionTold q.document.now limits answer old new status
 
 -- a run of `query`: the classes above and below the expression that the text is, and its individuals, are printed; or a fault is told
 pub record IsQueryRun (path text : List ℕ) (limits : Limits) (s : Store) (content : Content) (old new : Output) (status : ℕ) : Type 0 where
@@ -198,8 +171,7 @@ abbrev pub IsCommandRun : (told : Bool) → Command → Limits → Store → (co
 IsCommandRun told (Classify paths number) limits s content content' old new status = IsClassifyRun paths (format_of number) limits s content content' old new status
 IsCommandRun told (Check paths) limits s content content' old new status = IsCheckRun paths limits.version limits.max_bytes s content old new status
 IsCommandRun told (Convert conversion) limits s content content' old new status = IsConvertRun conversion limits s content content' old new status
-IsCommandRun told (Instances document class) limits s content content' old new status = IsInstancesRun document.now class.now limits s content old new status
-IsCommandRun told (Explain question) limits s content content' old new status = IsExplainRun question limits s content old new status
+IsCommandRun told (Ask document question) limits s content content' old new status = IsAskRun document.now question limits s content old new status
 IsCommandRun told (Query document expression) limits s content content' old new status = IsQueryRun document.now expression.now limits s content old new status
 IsCommandRun told (Session document) limits s content content' old new status = IsSessionRun told document limits s content content' old new status
 

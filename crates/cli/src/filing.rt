@@ -12,13 +12,13 @@ ghost use Rattle.std.specs.Prelude.{◌≡◌, ◌≤◌, ◌&&◌, length};
 
 use crate::printing::{print_summary, unwritten_message, written_path};
 use crate::sinks::sinks_of;
-use crate::slicing::{run_slices, tell_drawn};
+use crate::slicing::run_slices;
 use certificate::Format;
 use classification::Summary;
 use command_line::Paths;
 use device::{BufferSink, Memory, Sink, Source};
 use program::Status;
-use session::{Session, TextFault};
+use session::{Session, TextFault, tell_drawn};
 use speech::{
     Command, Ending, Reply, Service, SessionService, TextPaths, converse, unfinished_reply,
 };

@@ -29,14 +29,14 @@ pub use certificate_text::ConvertFault;
 pub use checking::{Checked, check_document};
 pub use classification::Summary;
 pub use classifying::classify_document;
-pub use command_line::{Command, Conversion, FormatNumber, LineFault, Paths, Question, Task, task};
+pub use command_line::{Command, Conversion, FormatNumber, LineFault, Paths, Task, task};
 pub use converting::convert_certificate;
 pub use fault::{CheckFault, ClassifyFault, ConversionFault};
 pub use profile::{DocumentFault, Limits, Version, read_document};
 pub use run::perform;
 pub use session::{
-    Answers, AskFault, Asked, Explanation, Form, Interpretation, Line, QueryFault, QuestionFault,
-    Session, Stop, TextFault, explanation_text, instances_text, query_text,
+    Answer, Answers, AskFault, Asked, Explanation, Interpretation, Line, QueryFault, Question,
+    QuestionFault, Related, Session, Shown, Side, Stop, TextFault, query_text, question_text,
 };
 pub use starting::start;
 pub use system_files::Files;

@@ -6,7 +6,7 @@ ghost use Rattle.cli.specs.Runs.{AskForNoFiles, IsCheckTold, IsCheckedFiles, IsC
 ghost use Rattle.cli.specs.Messages.{IsLineTold, outputs};
 ghost use Rattle.std.specs.Prelude.{◌≡◌, map};
 
-use crate::asking::{perform_explain, perform_instances, perform_query};
+use crate::asking::{perform_ask, perform_query};
 use crate::checking::{Checked, check_document};
 use crate::classifying::classify_document;
 use crate::converting::converted_file;
@@ -275,11 +275,8 @@ pub fn perform<F: Files, O: Sink, E: Sink>(
         Command::Convert(conversion) => {
             perform_convert(alloc, &conversion, &limits, files, out, err, state)
         }
-        Command::Instances { document, class } => {
-            perform_instances(alloc, document, class, &limits, files, out, err, state)
-        }
-        Command::Explain(question) => {
-            perform_explain(alloc, &question, &limits, files, out, err, state)
+        Command::Ask { document, question } => {
+            perform_ask(alloc, document, question, &limits, files, out, err, state)
         }
         Command::Query {
             document,

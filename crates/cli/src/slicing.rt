@@ -7,17 +7,8 @@ ghost use Rattle.session.specs.Sessions.{IsSession, KeepsText};
 ghost use Rattle.std.specs.Prelude.{◌≡◌};
 
 use device::Sink;
-use session::{SLICE, Session, Stage, Stop, tell_stage};
+use session::{SLICE, Session, Stop, tell_drawn};
 use speech::SessionService;
-
-/// Tells how many facts there are, and how many are pending, where progress is told.
-pub(crate) fn tell_drawn<E: Sink>(session: &Session, told: bool, err: &mut E)
-    ensures { IsProgress told (seen E.Sink err.old) (seen E.Sink err.new) }
-{
-    let facts = session.facts();
-    let pending = facts.saturating_sub(session.served());
-    tell_stage(err, told, &Stage::Drawn { facts, pending });
-}
 
 /// Runs the session on to so many facts, and says whether it stopped there.
 fn run_slice(session: &mut Session, most: u32) -> bool

@@ -2,8 +2,6 @@
 ghost use Rattle.cli.specs.Files.{BlamesFile};
 ghost use Rattle.cli.specs.Runs.{RunsTelling};
 ghost use Rattle.profile.specs.Faults.{OpensKnown, RefusesKnown};
-ghost use Rattle.session.specs.Devices.{seen};
-ghost use Rattle.session.specs.Progress.{IsProgress};
 ghost use Rattle.session.specs.Sessions.{as_read};
 ghost use Rattle.std.specs.Prelude.{◌≡◌, [], IfErr, IfOk};
 
@@ -13,7 +11,7 @@ use crate::sources::source_of;
 use command_line::Command;
 use device::Sink;
 use profile::{DocumentFault, Limits};
-use session::{Session, Stage, tell_stage};
+use session::{Session, tell_opened};
 use speech::{SessionService, document_message};
 use std::alloc::Global;
 use std::hash::RandomState;
@@ -41,15 +39,6 @@ fn session_in<F: Files>(
         return Err(DocumentFault::Memory);
     };
     Session::open(alloc, &mut document, limits, state)
-}
-
-/// Tells what was read, where progress is told.
-fn tell_opened<E: Sink>(session: &Session, told: bool, err: &mut E)
-    ensures { IsProgress told (seen E.Sink err.old) (seen E.Sink err.new) }
-{
-    let bytes = session.bytes();
-    let axioms = session.ontology().axioms().len();
-    tell_stage(err, told, &Stage::Read { bytes, axioms });
 }
 
 /// Opens the document, and answers the commands that are read, until there are no more, over the files.

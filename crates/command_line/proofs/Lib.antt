@@ -1,3 +1,4 @@
 pub mod Numbers
 pub mod NoTask
 pub mod Additions
+pub mod Asking

@@ -10,11 +10,18 @@ use Rattle.command_line.specs.declared.tasks.Conversion.{Conversion}
 use Rattle.command_line.specs.declared.tasks.FormatNumber.{FormatNumber}
 use Rattle.command_line.specs.declared.tasks.FormatNumber.TheVariants as formats
 use Rattle.command_line.specs.declared.tasks.Paths.{Paths}
-use Rattle.command_line.specs.declared.tasks.Question.{Question}
+use Rattle.program.specs.Questions.{related_word, side_word}
+use Rattle.program.specs.declared.question.Asked.{Asked}
+use Rattle.program.specs.declared.question.Asked.TheVariants.{Class, Individual}
+use Rattle.program.specs.declared.question.Question.{Question}
+use Rattle.program.specs.declared.question.Question.TheVariants.{Names, Groups, Why}
+use Rattle.program.specs.declared.question.Related.TheVariants.{Superclasses, Subclasses, Equivalents, Instances}
+use Rattle.program.specs.declared.question.Shown.{Shown}
+use Rattle.program.specs.declared.question.Side.TheVariants.{Above, Below}
 use Rattle.command_line.specs.declared.tasks.LineFault.{LineFault}
 use Rattle.command_line.specs.declared.tasks.LineFault.TheVariants.{Line, Memory}
 use Rattle.command_line.specs.declared.tasks.Command.{Command}
-use Rattle.command_line.specs.declared.tasks.Command.TheVariants.{Check, Classify, Convert, Explain, Instances, Query, Session}
+use Rattle.command_line.specs.declared.tasks.Command.TheVariants.{Ask, Check, Classify, Convert, Query, Session}
 use Rattle.command_line.specs.declared.tasks.Task.{Task}
 use Rattle.program.specs.declared.limits.Limits.{Limits}
 use Rattle.program.specs.declared.limits.TheConstants.{MOST_BYTES, MOST_FACTS}
@@ -114,9 +121,19 @@ convert_app = with_reading (with_conversion (new_app (codes "convert")))
 abbrev pub with_certificates : App → App
 with_certificates app = with_subcommand (with_subcommand (with_subcommand app classify_app.top) check_app.top) convert_app.top
 
--- `instances DOC CLASS [--max-facts N] [--max-bytes N] [--profile N]`
-abbrev pub instances_app : App
-instances_app = with_limits (with_rule (with_rule (new_app (codes "instances")) (path (codes "DOC"))) (path (codes "CLASS")))
+-- `WORD DOC CLASS [--max-facts N] [--max-bytes N] [--profile N]`
+abbrev pub class_app : (word : Text) → App
+class_app word = with_limits (with_rule (with_rule (new_app word) (path (codes "DOC"))) (path (codes "CLASS")))
+
+-- the commands that ask for names that are related to a class
+abbrev pub with_related : App → App
+with_related app =
+    with_subcommand (with_subcommand (with_subcommand (with_subcommand app
+    (class_app (related_word Instances)).top) (class_app (related_word Superclasses)).top) (class_app (related_word Subclasses)).top) (class_app (related_word Equivalents)).top
+
+-- and those that ask for the classes directly on a side of it
+abbrev pub with_sides : App → App
+with_sides app = with_subcommand (with_subcommand app (class_app (side_word Above)).top) (class_app (side_word Below)).top
 
 -- `DOC SUB SUPER`
 abbrev pub with_names : App → App
@@ -140,7 +157,7 @@ session_app = with_limits (with_progress (with_rule (new_app (codes "session")) 
 
 -- the commands that ask about a document
 abbrev pub with_questions : App → App
-with_questions app = with_subcommand (with_subcommand (with_subcommand app instances_app.top) explain_app.top) query_app.top
+with_questions app = with_subcommand (with_subcommand (with_sides (with_related app)) explain_app.top) query_app.top
 
 -- the program, whose first word after its name is one of the commands
 abbrev pub elc_app : App
@@ -184,22 +201,28 @@ pub record IsConversion (rows : List Row) (conversion : Conversion) : Type 0 whe
 abbrev pub IsFlag : (id : Text) → (rows : List Row) → (stands : Bool) → Type 0
 IsFlag id rows stands = first_of id rows ≡ Some (if stands then codes "true" else codes "false")
 
--- the question is what the words in their places and the flags say
-pub record IsQuestion (rows : List Row) (question : Question) : Type 0 where
-  pub document : first_of (codes "DOC") rows ≡ Some question.document.now
-  pub subject : first_of (codes "SUB") rows ≡ Some question.subject.now
-  pub class : first_of (codes "SUPER") rows ≡ Some question.class.now
-  pub individual : IsFlag (codes "individual") rows question.individual
-  pub dot : IsFlag (codes "dot") rows question.dot
-  pub reached : IsFlag (codes "reached") rows question.reached
+-- it is asked of the name in its place, of an individual where the flag stands and else of a class
+abbrev pub IsAsked : List Row → Asked → Type 0
+IsAsked rows (Class c) = (first_of (codes "SUB") rows ≡ Some c.now) × IsFlag (codes "individual") rows false
+IsAsked rows (Individual a) = (first_of (codes "SUB") rows ≡ Some a.now) × IsFlag (codes "individual") rows true
+
+-- the explanation is shown as the flags say
+pub record IsShownBy (rows : List Row) (shown : Shown) : Type 0 where
+  pub graph : IsFlag (codes "dot") rows shown.graph
+  pub reached : IsFlag (codes "reached") rows shown.reached
+
+-- the question is what the command's name, the words in their places and the flags say
+abbrev pub IsQuestion : Text → List Row → Question → Type 0
+IsQuestion name rows (Names related class) = (name ≡ related_word related) × (first_of (codes "CLASS") rows ≡ Some class.now)
+IsQuestion name rows (Groups side class) = (name ≡ side_word side) × (first_of (codes "CLASS") rows ≡ Some class.now)
+IsQuestion name rows (Why asked class shown) = (name ≡ codes "explain") × IsAsked rows asked × (first_of (codes "SUPER") rows ≡ Some class.now) × IsShownBy rows shown
 
 -- the command is what its name and its matches say
 abbrev pub IsCommand : Text → List Row → Command → Type 0
 IsCommand name rows (Classify paths format) = (name ≡ codes "classify") × ArePaths rows paths × IsFormat rows format
 IsCommand name rows (Check paths) = (name ≡ codes "check") × ArePaths rows paths
 IsCommand name rows (Convert conversion) = (name ≡ codes "convert") × IsConversion rows conversion
-IsCommand name rows (Instances document class) = (name ≡ codes "instances") × (first_of (codes "DOC") rows ≡ Some document.now) × (first_of (codes "CLASS") rows ≡ Some class.now)
-IsCommand name rows (Explain question) = (name ≡ codes "explain") × IsQuestion rows question
+IsCommand name rows (Ask document question) = (first_of (codes "DOC") rows ≡ Some document.now) × IsQuestion name rows question
 IsCommand name rows (Query document expression) = (name ≡ codes "query") × (first_of (codes "DOC") rows ≡ Some document.now) × (first_of (codes "EXPRESSION") rows ≡ Some expression.now)
 IsCommand name rows (Session document) = (name ≡ codes "session") × (first_of (codes "DOC") rows ≡ Some document.now)
 

@@ -3,7 +3,7 @@ ghost use Rattle.std.specs.Fmt.{decimal};
 ghost use Rattle.std.specs.Prelude.{◌≡◌, ◌||◌, IfOk, IsOkAnd, false};
 ghost use Rattle.clap.specs.Words.{app_of, rule_of, with_rule, with_subcommand as app_with_subcommand};
 ghost use Rattle.clap.specs.declared.builder.command.Command.TheViews.{out-Command as fields_of};
-ghost use Rattle.command_line.specs.CommandLine.{number, path, flag, max_facts, max_bytes, format, with_reading as app_with_reading, with_paths as app_with_paths, with_names as app_with_names, with_flags as app_with_flags, with_progress as app_with_progress, with_limits as app_with_limits, with_conversion as app_with_conversion, with_certificates as app_with_certificates, with_questions as app_with_questions, check_app, classify_app, convert_app, instances_app, explain_app, query_app, session_app, elc_app};
+ghost use Rattle.command_line.specs.CommandLine.{number, path, flag, max_facts, max_bytes, format, with_reading as app_with_reading, with_paths as app_with_paths, with_names as app_with_names, with_flags as app_with_flags, with_progress as app_with_progress, with_limits as app_with_limits, with_conversion as app_with_conversion, with_certificates as app_with_certificates, with_questions as app_with_questions, with_related as app_with_related, with_sides as app_with_sides, check_app, class_app, classify_app, convert_app, explain_app, query_app, session_app, elc_app};
 
 use clap::{Arg, ArgAction, Command, value_parser};
 use program::{MOST_BYTES, MOST_BYTES_TEXT, MOST_FACTS, MOST_FACTS_TEXT};
@@ -16,6 +16,7 @@ const EXAMPLES: &str = "Examples:
   elc check food.ofn food.tax food.inst food.cert
   elc convert food.ofn food.cert food1.cert --format 1
   elc instances food.ofn http://example.org/Pizza
+  elc parents food.ofn http://example.org/Pizza
   elc explain food.ofn http://example.org/Pizza http://example.org/Food
   elc explain food.ofn http://example.org/margherita http://example.org/Pizza --individual
   elc query food.ofn 'ObjectSomeValuesFrom(:contains :Nut)'
@@ -29,6 +30,16 @@ const CHECK_ABOUT: &str = "Checks the three texts of a classification against th
 const CONVERT_ABOUT: &str = "Writes a certificate again in a format, without checking its lines";
 
 const INSTANCES_ABOUT: &str = "Prints the individuals that belong to a class";
+
+const SUPERS_ABOUT: &str = "Prints the classes above a class";
+
+const SUBS_ABOUT: &str = "Prints the classes below a class";
+
+const EQUIVALENTS_ABOUT: &str = "Prints the classes that are equal to a class";
+
+const PARENTS_ABOUT: &str = "Prints the classes directly above a class, equal ones on one line";
+
+const CHILDREN_ABOUT: &str = "Prints the classes directly below a class, equal ones on one line";
 
 const EXPLAIN_ABOUT: &str =
     "Prints whether a class is below another, or an individual is in it, with the proof or a counterexample";
@@ -230,14 +241,42 @@ fn with_certificates<'a>(alloc: Global, command: Command<'a>) -> Result<Command<
     with_subcommand(command, convert_command(alloc))
 }
 
-fn instances_command<'a>(alloc: Global) -> Result<Command<'a>, AllocError>
-    ensures app { IfOk result (λ c. app_of c ≡ instances_app) }
+/// The command of that word, which asks about a class.
+fn class_command<'a>(
+    alloc: Global,
+    word: &'a str,
+    about: &'a str,
+) -> Result<Command<'a>, AllocError>
+    ensures app { IfOk result (λ c. app_of c ≡ class_app word.entry.now) }
     ensures local { IfOk result (λ c. (fields_of c).has_globals ≡ false) }
 {
-    let command = Command::new(alloc, "instances").about(INSTANCES_ABOUT);
+    let command = Command::new(alloc, word).about(about);
     let command = with_path(alloc, command, "DOC", DOCUMENT_HELP)?;
     let command = with_path(alloc, command, "CLASS", CLASS_HELP)?;
     with_limits(alloc, command)
+}
+
+/// The command with those that ask for names that are related to a class.
+fn with_related<'a>(alloc: Global, command: Command<'a>) -> Result<Command<'a>, AllocError>
+    ensures app { IfOk result (λ c. app_of c ≡ app_with_related (app_of command.entry)) }
+    ensures local { (fields_of command.entry).has_globals ≡ false → IfOk result (λ c. (fields_of c).has_globals ≡ false) }
+{
+    let command = with_subcommand(command, class_command(alloc, "instances", INSTANCES_ABOUT))?;
+    let command = with_subcommand(command, class_command(alloc, "supers", SUPERS_ABOUT))?;
+    let command = with_subcommand(command, class_command(alloc, "subs", SUBS_ABOUT))?;
+    with_subcommand(
+        command,
+        class_command(alloc, "equivalents", EQUIVALENTS_ABOUT),
+    )
+}
+
+/// The command with those that ask for the classes directly above and below a class.
+fn with_sides<'a>(alloc: Global, command: Command<'a>) -> Result<Command<'a>, AllocError>
+    ensures app { IfOk result (λ c. app_of c ≡ app_with_sides (app_of command.entry)) }
+    ensures local { (fields_of command.entry).has_globals ≡ false → IfOk result (λ c. (fields_of c).has_globals ≡ false) }
+{
+    let command = with_subcommand(command, class_command(alloc, "parents", PARENTS_ABOUT))?;
+    with_subcommand(command, class_command(alloc, "children", CHILDREN_ABOUT))
 }
 
 /// The command with the document and the two names that a question is of.
@@ -313,7 +352,8 @@ fn with_questions<'a>(alloc: Global, command: Command<'a>) -> Result<Command<'a>
     ensures app { IfOk result (λ c. app_of c ≡ app_with_questions (app_of command.entry)) }
     ensures local { (fields_of command.entry).has_globals ≡ false → IfOk result (λ c. (fields_of c).has_globals ≡ false) }
 {
-    let command = with_subcommand(command, instances_command(alloc))?;
+    let command = with_related(alloc, command)?;
+    let command = with_sides(alloc, command)?;
     let command = with_subcommand(command, explain_command(alloc))?;
     with_subcommand(command, query_command(alloc))
 }

@@ -5,5 +5,5 @@ mod command;
 mod tasks;
 mod words;
 
-pub use tasks::{Command, Conversion, FormatNumber, LineFault, Paths, Question, Task};
+pub use tasks::{Command, Conversion, FormatNumber, LineFault, Paths, Task};
 pub use words::task;

@@ -1,6 +1,6 @@
 //! Tasks, and why words are none.
 
-use program::Limits;
+use program::{Limits, Question};
 use thiserror::Error;
 
 /// The files that a task reads or writes.
@@ -10,22 +10,6 @@ pub struct Paths<'a> {
     pub taxonomy: &'a str,
     pub instances: &'a str,
     pub certificate: &'a str,
-}
-
-/// Whether a document says that a class is below another, or that an individual is in it.
-#[derive(Clone, Copy, PartialEq, Eq)]
-pub struct Question<'a> {
-    pub document: &'a str,
-    /// The name of the class or the individual that is asked of.
-    pub subject: &'a str,
-    /// The name of the class above.
-    pub class: &'a str,
-    /// Whether the subject is an individual.
-    pub individual: bool,
-    /// Whether the answer is wanted as a graph.
-    pub dot: bool,
-    /// Whether of a counterexample those elements alone are wanted that are reached from the one that refutes.
-    pub reached: bool,
 }
 
 /// The number of the format that a certificate is written in.
@@ -57,13 +41,11 @@ pub enum Command<'a> {
     Check(Paths<'a>),
     /// Write the certificate again.
     Convert(Conversion<'a>),
-    /// Print the individuals that belong to the class.
-    Instances {
+    /// Answer the question.
+    Ask {
         document: &'a str,
-        class: &'a str,
+        question: Question<'a>,
     },
-    /// Answer the question, with the reason.
-    Explain(Question<'a>),
     /// Answer a query of a class expression.
     Query {
         document: &'a str,

@@ -1,13 +1,13 @@
 //! Reads the program's words.
-ghost use Rattle.std.specs.Prelude.{◌≡◌, IfOk, IfErr, map, option_map, true};
+ghost use Rattle.std.specs.Prelude.{◌≡◌, IfOk, IfErr, codes, map, option_map, true};
 ghost use Rattle.clap.specs.Words.{subcommand_rows_of, rows_of, found_of, first_of};
-ghost use Rattle.command_line.specs.CommandLine.{AreLimits, ArePaths, IsCommand, IsConversion, IsFlag, IsFormat, IsNumber, IsQuestion, IsTaskOf, IsTelling, IsVersion, NamesTask, Finds, Refuses, draws_facts as draws, tells_progress as tells};
+ghost use Rattle.command_line.specs.CommandLine.{AreLimits, ArePaths, IsAsked, IsCommand, IsConversion, IsFlag, IsFormat, IsNumber, IsQuestion, IsTaskOf, IsTelling, IsVersion, NamesTask, Finds, Refuses, draws_facts as draws, tells_progress as tells};
 
 use crate::command::elc_command;
-use crate::tasks::{Command, Conversion, FormatNumber, LineFault, Paths, Question, Task};
+use crate::tasks::{Command, Conversion, FormatNumber, LineFault, Paths, Task};
 use clap::ArgMatches;
 use clap::error::ErrorKind;
-use program::{Limits, MOST_FACTS, Version};
+use program::{Asked, Limits, MOST_FACTS, Question, Related, Shown, Side, Version};
 use std::alloc::Global;
 
 /// The word that stands for the argument.
@@ -40,18 +40,43 @@ fn flag(inner: &ArgMatches<'_>, id: &str) -> Option<bool>
     }
 }
 
-/// The question, whose names the command requires.
-fn question<'a>(inner: &ArgMatches<'a>) -> Option<Question<'a>>
-    ensures { Finds (IsQuestion (rows_of (found_of inner.now))) result }
+/// Of what it is asked whether it is in a class.
+fn asked<'a>(inner: &ArgMatches<'a>) -> Option<Asked<'a>>
+    ensures { Finds (IsAsked (rows_of (found_of inner.now))) result }
 {
-    Some(Question {
-        document: word(inner, "DOC")?,
-        subject: word(inner, "SUB")?,
-        class: word(inner, "SUPER")?,
-        individual: flag(inner, "individual")?,
-        dot: flag(inner, "dot")?,
+    let subject = word(inner, "SUB")?;
+    if flag(inner, "individual")? {
+        Some(Asked::Individual(subject))
+    } else {
+        Some(Asked::Class(subject))
+    }
+}
+
+/// The question whether, and why, something is in a class, whose names the command requires.
+fn why<'a>(inner: &ArgMatches<'a>) -> Option<Question<'a>>
+    ensures { Finds (IsQuestion (codes "explain") (rows_of (found_of inner.now))) result }
+{
+    let asked = asked(inner)?;
+    let class = word(inner, "SUPER")?;
+    let shown = Shown {
+        graph: flag(inner, "dot")?,
         reached: flag(inner, "reached")?,
-    })
+    };
+    Some(Question::Why(asked, class, shown))
+}
+
+/// The question of the command of that name, where it asks one.
+fn question<'a>(name: &str, inner: &ArgMatches<'a>) -> Option<Question<'a>>
+    ensures { Finds (IsQuestion name.now (rows_of (found_of inner.now))) result }
+{
+    if name == "explain" {
+        return why(inner);
+    }
+    if let Some(related) = Related::of_word(name) {
+        return Some(Question::Names(related, word(inner, "CLASS")?));
+    }
+    let side = Side::of_word(name)?;
+    Some(Question::Groups(side, word(inner, "CLASS")?))
 }
 
 /// The number of an option.
@@ -151,11 +176,6 @@ fn named<'a>(name: &str, inner: &ArgMatches<'a>) -> Option<Command<'a>>
         }),
         "check" => Some(Command::Check(paths(inner)?)),
         "convert" => Some(Command::Convert(conversion(inner)?)),
-        "instances" => Some(Command::Instances {
-            document: word(inner, "DOC")?,
-            class: word(inner, "CLASS")?,
-        }),
-        "explain" => Some(Command::Explain(question(inner)?)),
         "query" => Some(Command::Query {
             document: word(inner, "DOC")?,
             expression: word(inner, "EXPRESSION")?,
@@ -163,7 +183,10 @@ fn named<'a>(name: &str, inner: &ArgMatches<'a>) -> Option<Command<'a>>
         "session" => Some(Command::Session {
             document: word(inner, "DOC")?,
         }),
-        _ => None,
+        _ => Some(Command::Ask {
+            document: word(inner, "DOC")?,
+            question: question(name, inner)?,
+        }),
     }
 }
 

@@ -1,7 +1,6 @@
 -- What is answered of a document that was run to its end.
 use Rattle.std.proofs.Common.{◌≡◌, ℕ, List, Option, Result, Ok, Err, IfOk, IfErr, length, subst}
 use Rattle.std.specs.Global.{Vec}
-use Rattle.answers.specs.declared.asked.Asked.{Asked}
 use Rattle.axioms.specs.Expression.{Iri}
 use Rattle.axioms.specs.declared.terms.Kind.{Kind}
 use Rattle.cert_check.specs.Acceptance.{AreRight, IsAcceptable}
@@ -13,12 +12,12 @@ use Rattle.engine.specs.Saturations.{IsFinished, as_ended}
 use Rattle.profile.proofs.Readings.{opened_read}
 use Rattle.profile.specs.declared.opened.Opened.{Opened}
 use Rattle.program.specs.declared.limits.Limits.{Limits}
+use Rattle.program.specs.declared.question.Question.{Question}
 use Rattle.session.specs.Answers.{IsMade}
 use Rattle.session.specs.Sessions.{Opened as Session}
-use Rattle.session.specs.TextAnswers.{AnswersInstances, AnswersExplanation, IsFaultOf, IsReadAs, IsRunAs, ListsInstances, ShowsExplanation}
+use Rattle.session.specs.TextAnswers.{AnswersIn, AnswersQuestion, IsFaultOf, IsReadAs, IsRunAs}
 use Rattle.session.specs.Texts.{IsUnanswered}
 use Rattle.session.specs.WrittenTexts.{texts_of}
-use Rattle.session.specs.declared.form.Form.{Form}
 use Rattle.session.specs.declared.question_fault.QuestionFault.{QuestionFault}
 use Rattle.session.specs.declared.question_fault.QuestionFault.TheVariants as asking
 
@@ -28,13 +27,9 @@ module _ (limits : Limits) (document : Option (List ℕ)) (d : Opened) (run : Is
 
   -- ---- answers
 
-  pub answers_instances : (r : Result (Vec ℕ) QuestionFault) (class : Iri) → IfOk r (λ v. ListsInstances d.ontology class v.items) → IfOk r (λ v. AnswersInstances limits document class v.items)
-  answers_instances (Ok v) class is = (d.ontology, read, run.few, is)
-  answers_instances (Err fault) class is = tt
-
-  pub answers_why : (r : Result (Vec ℕ) QuestionFault) (asked : Asked) (class : Iri) (form : Form) → IfOk r (λ v. ShowsExplanation d.ontology asked class form v.items) → IfOk r (λ v. AnswersExplanation limits document asked class form v.items)
-  answers_why (Ok v) asked class form is = (d.ontology, read, run.few, is)
-  answers_why (Err fault) asked class form is = tt
+  pub answers_question : (r : Result (Vec ℕ) QuestionFault) (question : Question) → IfOk r (λ v. AnswersIn d.ontology question v.items) → IfOk r (λ v. AnswersQuestion limits document question v.items)
+  answers_question (Ok v) question is = (d.ontology, read, run.few, is)
+  answers_question (Err fault) question is = tt
 
   -- ---- faults of a question that was asked at the end
 

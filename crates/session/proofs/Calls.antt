@@ -18,7 +18,7 @@ use Rattle.program.specs.declared.version.Version.{Version}
 use Rattle.shapes.specs.Faults.{axiom_faults, document_faults}
 use Rattle.session.proofs.AnyVersion.{document_states, texts_state}
 use Rattle.session.specs.Additions.{IsAddition}
-use Rattle.session.specs.Edits.{Call, Add, Resume, Superclasses, Subclasses, Equivalents, Parents, Children, Instances, Explain, Query, Write, Reply, Added, Resumed, Named, Grouped, Explained, Found, Written, IsCall, AreCalls, IsSessionOver, IsOneDocument, AreStatedBy, HasAccepted, AreEditedAlike, accepted, added, bytes_of, EditsAreOneDocument, AcceptedAlikeEndAlike}
+use Rattle.session.specs.Edits.{Call, Add, Resume, Ask, Query, Write, Reply, Added, Resumed, Answered, Found, Written, IsCall, AreCalls, IsSessionOver, IsOneDocument, AreStatedBy, HasAccepted, AreEditedAlike, accepted, added, bytes_of, EditsAreOneDocument, AcceptedAlikeEndAlike}
 use Rattle.session.specs.Sessions.{IsSession, KeepsText, Opened}
 
 -- ---- texts one behind the other
@@ -104,20 +104,8 @@ one_call version bytes texts old (Add text) (Added (Ok _)) new h is session = on
 one_call version bytes texts old (Add text) (Added (Err fault)) new h is session = stays version bytes texts old new h is.1
 one_call version bytes texts old (Resume most) (Resumed answer) new h is session =
     subst (λ (ts : List (List ℕ)). IsOneDocument version bytes ts new) (sym (append-nil texts)) (same_document version bytes texts old new is.0 is.1 h)
-one_call version bytes texts old (Superclasses class) (Named (Ok names)) new h is session = stays version bytes texts old new h is.2
-one_call version bytes texts old (Superclasses class) (Named (Err fault)) new h is session = stays version bytes texts old new h is.1
-one_call version bytes texts old (Subclasses class) (Named (Ok names)) new h is session = stays version bytes texts old new h is.2
-one_call version bytes texts old (Subclasses class) (Named (Err fault)) new h is session = stays version bytes texts old new h is.1
-one_call version bytes texts old (Equivalents class) (Named (Ok names)) new h is session = stays version bytes texts old new h is.2
-one_call version bytes texts old (Equivalents class) (Named (Err fault)) new h is session = stays version bytes texts old new h is.1
-one_call version bytes texts old (Parents class) (Grouped (Ok groups)) new h is session = stays version bytes texts old new h is.2
-one_call version bytes texts old (Parents class) (Grouped (Err fault)) new h is session = stays version bytes texts old new h is.1
-one_call version bytes texts old (Children class) (Grouped (Ok groups)) new h is session = stays version bytes texts old new h is.2
-one_call version bytes texts old (Children class) (Grouped (Err fault)) new h is session = stays version bytes texts old new h is.1
-one_call version bytes texts old (Instances class) (Named (Ok names)) new h is session = stays version bytes texts old new h is.2
-one_call version bytes texts old (Instances class) (Named (Err fault)) new h is session = stays version bytes texts old new h is.1
-one_call version bytes texts old (Explain asked class) (Explained (Ok explanation)) new h is session = stays version bytes texts old new h is.2
-one_call version bytes texts old (Explain asked class) (Explained (Err fault)) new h is session = stays version bytes texts old new h is.1
+one_call version bytes texts old (Ask question) (Answered (Ok answer)) new h is session = stays version bytes texts old new h is.2
+one_call version bytes texts old (Ask question) (Answered (Err fault)) new h is session = stays version bytes texts old new h is.1
 one_call version bytes texts old (Query text most) (Found (Ok found)) new h is session = stays version bytes texts old new h is.1
 one_call version bytes texts old (Query text most) (Found (Err fault)) new h is session = stays version bytes texts old new h is.1
 one_call version bytes texts old (Write format before) (Written after answer) new h is session = stays version bytes texts old new h is.1

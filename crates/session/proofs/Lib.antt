@@ -4,7 +4,7 @@ pub mod Finding
 pub mod Counting
 pub mod AtEnd
 pub mod Growing
-pub mod Asking
+pub mod Expressions
 pub mod AnyVersion
 pub mod Calls
 pub mod FactNumber

@@ -1,23 +1,15 @@
 -- What a session says where it is asked, and where its texts are written.
-use Rattle.std.specs.Prelude.{◌≡◌, ◌≤◌, ◌⊎◌, ◌∷◌, [], List, Result, Ok, Err, length}
-use Rattle.std.specs.List.{Contains}
+use Rattle.std.specs.Prelude.{◌≡◌, ◌≤◌, List, Result, Ok, Err, length}
+use Rattle.std.specs.List.{All}
+use Rattle.answers.specs.Questions.{HasName, IsFirstUnknown}
 use Rattle.axioms.specs.Expression.{Iri}
-use Rattle.axioms.specs.Growth.{names_of}
-use Rattle.axioms.specs.Ontology.{Ontology}
 use Rattle.axioms.specs.declared.terms.Kind.{Kind}
-use Rattle.axioms.specs.declared.terms.Kind.TheVariants as kinds
 use Rattle.cert_check.specs.Acceptance.{AreRight, IsAcceptable}
 use Rattle.certificate.specs.declared.format.Format.{Format}
 use Rattle.classification.specs.Classifications.{AreCountsOf, AreTextsOf, IsWrittenIn}
 use Rattle.classification.specs.declared.classification.Summary.{Summary}
 use Rattle.device.specs.declared.device.Sink.{Ghosts}
 use Rattle.engine.specs.Saturations.{IsFinished}
-use Rattle.answers.specs.Explanations.{IsKnown}
-use Rattle.answers.specs.Entailment.{BelongsTo, LiesBelow}
-use Rattle.answers.specs.Names.{AreThose}
-use Rattle.answers.specs.Neighbours.{AreGroups, AreSame, LiesDirectlyBelow}
-use Rattle.answers.specs.declared.asked.Asked.{Asked}
-use Rattle.answers.specs.declared.asked.Asked.TheVariants as subjects
 use Rattle.session.specs.Sessions.{Opened}
 use Rattle.session.specs.WrittenTexts.{Sinks, Texts, AreWritten, AreWrittenUntil, all_seen}
 use Rattle.session.specs.declared.fault.AskFault.{AskFault}
@@ -25,75 +17,19 @@ use Rattle.session.specs.declared.fault.AskFault.TheVariants as asking
 use Rattle.session.specs.declared.fault.TextFault.{TextFault}
 use Rattle.session.specs.declared.fault.TextFault.TheVariants as writing
 
--- nothing is pending, and the name is that of a class
-pub record HasClass (s : Opened) (name : Iri) : Type 0 where
+-- ---- questions
+
+-- nothing is pending, and each name of the question, with its kind, is known
+pub record IsQuestioned (s : Opened) (names : List (Kind × Iri)) : Type 0 where
   pub finished : IsFinished s.saturation
-  pub known : Contains s.ontology.names.classes name
+  pub known : All (HasName s.ontology) names
 
--- what a refusal says of a question about a class: facts are pending; or none are, and the name that is told is that of the
--- question, and of no class
-abbrev pub IsClassRefusal : Opened → Iri → AskFault → Type 0
-IsClassRefusal s name asking.Unfinished = ¬ IsFinished s.saturation
-IsClassRefusal s name (asking.UnknownName unknown) = IsFinished s.saturation × (unknown.now ≡ name) × ¬ Contains s.ontology.names.classes name
-IsClassRefusal s name asking.Memory = IsFinished s.saturation
-
--- ---- names in an answer
-
--- these are the named classes that lie above the class, each once and in byte order
-abbrev pub AreSuperclasses : Ontology → (class : Iri) → (names : List Iri) → Type 0
-AreSuperclasses o class names = AreThose o.names.classes (LiesBelow o class) names
-
--- these are the named classes that lie below the class, each once and in byte order
-abbrev pub AreSubclasses : Ontology → (class : Iri) → (names : List Iri) → Type 0
-AreSubclasses o class names = AreThose o.names.classes (λ name. LiesBelow o name class) names
-
--- these are the named classes that are the same as the class, each once and in byte order
-abbrev pub AreEquivalents : Ontology → (class : Iri) → (names : List Iri) → Type 0
-AreEquivalents o class names = AreThose o.names.classes (AreSame o class) names
-
--- these are the named classes that lie directly above the class, in groups of those that are the same
-abbrev pub AreParents : Ontology → (class : Iri) → (groups : List (List Iri)) → Type 0
-AreParents o class groups = AreGroups o (LiesDirectlyBelow o class) groups
-
--- these are the named classes that lie directly below the class, in groups of those that are the same
-abbrev pub AreChildren : Ontology → (class : Iri) → (groups : List (List Iri)) → Type 0
-AreChildren o class groups = AreGroups o (λ name. LiesDirectlyBelow o name class) groups
-
--- these are the individuals that belong to the class, each once and in byte order
-abbrev pub AreInstances : Ontology → (class : Iri) → (names : List Iri) → Type 0
-AreInstances o class names = AreThose o.names.individuals (λ name. BelongsTo o name class) names
-
--- ---- names in a question
-
--- the names, each with its kind
-abbrev pub class_name : Iri → Kind × Iri
-class_name class = (kinds.Class, class)
-
-abbrev pub subject_name : Asked → Kind × Iri
-subject_name (subjects.Class c) = (kinds.Class, c.now)
-subject_name (subjects.Individual a) = (kinds.Individual, a.now)
-
-abbrev pub HasName : Ontology → Kind × Iri → Type 0
-HasName o named = Contains (names_of o.names named.0) named.1
-
--- it is the first of the names, from the left, that the ontology lacks
-abbrev pub IsFirstUnknown : Ontology → (names : List (Kind × Iri)) → Iri → Type 0
-IsFirstUnknown o [] unknown = ⊥
-IsFirstUnknown o (named ∷ later) unknown = (¬ HasName o named × (unknown ≡ named.1)) ⊎ (HasName o named × IsFirstUnknown o later unknown)
-
--- nothing is pending, and both names are known
-pub record HasNames (s : Opened) (asked : Asked) (class : Iri) : Type 0 where
-  pub finished : IsFinished s.saturation
-  pub subject : IsKnown s.ontology asked
-  pub known : Contains s.ontology.names.classes class
-
--- what a refusal says of a question about a subject and a class: facts are pending; or none are, and the name that is told is the first
--- that is unknown
-abbrev pub IsExplainRefusal : Opened → Asked → Iri → AskFault → Type 0
-IsExplainRefusal s asked class asking.Unfinished = ¬ IsFinished s.saturation
-IsExplainRefusal s asked class (asking.UnknownName unknown) =
-    IsFinished s.saturation × IsFirstUnknown s.ontology (subject_name asked ∷ class_name class ∷ []) unknown.now
-IsExplainRefusal s asked class asking.Memory = IsFinished s.saturation
+-- what a refusal says of a question of these names: facts are pending; or none are, and the name that is told is the first, from the
+-- left, that is unknown
+abbrev pub IsAskRefusal : Opened → (names : List (Kind × Iri)) → AskFault → Type 0
+IsAskRefusal s names asking.Unfinished = ¬ IsFinished s.saturation
+IsAskRefusal s names (asking.UnknownName unknown) = IsFinished s.saturation × IsFirstUnknown s.ontology names unknown.now
+IsAskRefusal s names asking.Memory = IsFinished s.saturation
 
 -- ---- texts
 

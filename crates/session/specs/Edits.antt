@@ -1,13 +1,11 @@
 -- Calls of a session one after the other, with their answers, and what is then there: what one document states.
 use Rattle.std.specs.Prelude.{◌≡◌, ◌↔◌, ◌+◌, ℕ, List, [], ◌∷◌, ◌++◌, Result, Ok, Err, Some, length}
 use Rattle.std.specs.List.{Contains}
-use Rattle.axioms.specs.Expression.{Iri}
 use Rattle.axioms.specs.Numbering.{Statement, IsOntologyOf}
 use Rattle.axioms.specs.Ontology.{Ontology}
 use Rattle.axioms.specs.WellFormedness.{IsOntology}
-use Rattle.answers.specs.Explanations.{Explains}
-use Rattle.answers.specs.declared.asked.Asked.{Asked}
-use Rattle.answers.specs.declared.explanation.Explanation.{Explanation}
+use Rattle.answers.specs.Questions.{IsAnswerTo, names_in}
+use Rattle.answers.specs.declared.answer.Answer.{Answer}
 use Rattle.certificate.specs.declared.format.Format.{Format}
 use Rattle.classification.specs.declared.classification.Summary.{Summary}
 use Rattle.closure.specs.Closure.{Context, Fact, IsFact}
@@ -26,9 +24,10 @@ use Rattle.profile.specs.AddedTexts.{AreStatementsOf}
 use Rattle.profile.specs.Documents.{AreTextOf, OpensAs, ReadsAs}
 use Rattle.profile.specs.Statements.{statements}
 use Rattle.profile.specs.declared.fault.DocumentFault.{DocumentFault}
+use Rattle.program.specs.declared.question.Question.{Question}
 use Rattle.program.specs.declared.version.Version.{Version}
 use Rattle.session.specs.Additions.{IsAddition, IsRefusedAddition}
-use Rattle.session.specs.Answers.{AreChildren, AreEquivalents, AreInstances, AreParents, AreSubclasses, AreSuperclasses, HasClass, HasNames, IsClassRefusal, IsExplainRefusal, IsMade, IsWritten}
+use Rattle.session.specs.Answers.{IsAskRefusal, IsMade, IsQuestioned, IsWritten}
 use Rattle.session.specs.Classifications.{IsClassified}
 use Rattle.session.specs.Queries.{IsQueryAnswer, IsQueryRefusal, NamesFound}
 use Rattle.session.specs.Sessions.{IsOpen, IsSession, KeepsText, Opened, as_read}
@@ -44,13 +43,7 @@ use Rattle.shapes.specs.Faults.{axiom_faults, document_faults}
 pub data Call : Type 0 where
   Add : (text : List ℕ) → Call
   Resume : (max_facts : ℕ) → Call
-  Superclasses : (class : Iri) → Call
-  Subclasses : (class : Iri) → Call
-  Equivalents : (class : Iri) → Call
-  Parents : (class : Iri) → Call
-  Children : (class : Iri) → Call
-  Instances : (class : Iri) → Call
-  Explain : (asked : Asked) (class : Iri) → Call
+  Ask : (question : Question) → Call
   Query : (text : List ℕ) (max_facts : ℕ) → Call
   Write : (format : Format) (before : Sinks) → Call
 
@@ -58,9 +51,7 @@ pub data Call : Type 0 where
 pub data Reply : Type 0 where
   Added : Result (Unit {0}) DocumentFault → Reply
   Resumed : Result (Unit {0}) Stop → Reply
-  Named : Result (List Iri) AskFault → Reply
-  Grouped : Result (List (List Iri)) AskFault → Reply
-  Explained : Result Explanation AskFault → Reply
+  Answered : Result Answer AskFault → Reply
   Found : Result NamesFound QueryFault → Reply
   Written : (after : Sinks) → Result Summary TextFault → Reply
 
@@ -70,20 +61,8 @@ IsCall old (Add text) (Added (Ok _)) new = IsAddition old text new
 IsCall old (Add text) (Added (Err fault)) new = IsRefusedAddition old text fault × (new ≡ old)
 IsCall old (Resume most) (Resumed answer) new =
     (new.ontology ≡ old.ontology) × KeepsText old new × HasResumed most old.saturation new.saturation answer × Saturates new.ontology most new.saturation answer
-IsCall old (Superclasses class) (Named (Ok names)) new = HasClass old class × AreSuperclasses old.ontology class names × (new ≡ old)
-IsCall old (Superclasses class) (Named (Err fault)) new = IsClassRefusal old class fault × (new ≡ old)
-IsCall old (Subclasses class) (Named (Ok names)) new = HasClass old class × AreSubclasses old.ontology class names × (new ≡ old)
-IsCall old (Subclasses class) (Named (Err fault)) new = IsClassRefusal old class fault × (new ≡ old)
-IsCall old (Equivalents class) (Named (Ok names)) new = HasClass old class × AreEquivalents old.ontology class names × (new ≡ old)
-IsCall old (Equivalents class) (Named (Err fault)) new = IsClassRefusal old class fault × (new ≡ old)
-IsCall old (Parents class) (Grouped (Ok groups)) new = HasClass old class × AreParents old.ontology class groups × (new ≡ old)
-IsCall old (Parents class) (Grouped (Err fault)) new = IsClassRefusal old class fault × (new ≡ old)
-IsCall old (Children class) (Grouped (Ok groups)) new = HasClass old class × AreChildren old.ontology class groups × (new ≡ old)
-IsCall old (Children class) (Grouped (Err fault)) new = IsClassRefusal old class fault × (new ≡ old)
-IsCall old (Instances class) (Named (Ok names)) new = HasClass old class × AreInstances old.ontology class names × (new ≡ old)
-IsCall old (Instances class) (Named (Err fault)) new = IsClassRefusal old class fault × (new ≡ old)
-IsCall old (Explain asked class) (Explained (Ok explanation)) new = HasNames old asked class × Explains old.ontology asked class explanation × (new ≡ old)
-IsCall old (Explain asked class) (Explained (Err fault)) new = IsExplainRefusal old asked class fault × (new ≡ old)
+IsCall old (Ask question) (Answered (Ok answer)) new = IsQuestioned old (names_in question) × IsAnswerTo old.ontology question answer × (new ≡ old)
+IsCall old (Ask question) (Answered (Err fault)) new = IsAskRefusal old (names_in question) fault × (new ≡ old)
 IsCall old (Query text most) (Found (Ok found)) new = IsQueryAnswer old text most found × (new ≡ old)
 IsCall old (Query text most) (Found (Err fault)) new = IsQueryRefusal old text most fault × (new ≡ old)
 IsCall old (Write format before) (Written after answer) new = IsWritten old format before after answer × (new ≡ old)

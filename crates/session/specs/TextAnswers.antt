@@ -1,6 +1,6 @@
 -- What a text answers about a document, and what a fault says where there is none.
-use Rattle.std.specs.Prelude.{◌≡◌, ◌⊎◌, ◌++◌, ◌∷◌, ℕ, List, [], Option, Result, Ok, Err, codes}
-use Rattle.std.specs.List.{Contains, flat_map}
+use Rattle.std.specs.Prelude.{◌≡◌, ◌⊎◌, ◌++◌, ◌∷◌, ℕ, List, [], Bool, true, false, Option, Result, Ok, Err, codes, map}
+use Rattle.std.specs.List.{flat_map}
 use Rattle.answer_texts.specs.Graphs.{proof_graph, refutation_graph}
 use Rattle.answer_texts.specs.Names.{line_feed, name_text}
 use Rattle.answer_texts.specs.Proof.{proof_text}
@@ -9,6 +9,7 @@ use Rattle.answer_texts.specs.Refutation.{refutation_text}
 use Rattle.axioms.specs.Expression.{Iri}
 use Rattle.axioms.specs.Ontology.{Ontology}
 use Rattle.axioms.specs.declared.terms.Kind.{Kind}
+use Rattle.certificate.specs.Certificate.{Line}
 use Rattle.certificate.specs.View.{lines_of}
 use Rattle.profile.specs.Documents.{IsTaken}
 use Rattle.profile.specs.Faults.{OpensKnown, ReadsKnown, RefusesKnown}
@@ -18,13 +19,16 @@ use Rattle.program.specs.declared.limits.Limits.{Limits}
 use Rattle.program.specs.declared.version.Version.{Version}
 use Rattle.session.specs.declared.question_fault.QuestionFault.{QuestionFault}
 use Rattle.session.specs.declared.question_fault.QuestionFault.TheVariants.{Document, Limit, UnknownName, Expression, Memory}
-use Rattle.session.specs.declared.form.Form.{Form}
-use Rattle.session.specs.declared.form.Form.TheVariants.{Lines, Graph, Reached, ReachedGraph}
-use Rattle.answers.specs.Explanations.{Explains, IsKnown}
-use Rattle.answers.specs.declared.asked.Asked.{Asked}
+use Rattle.answers.specs.Names.{groups_in}
+use Rattle.answers.specs.Questions.{AreKnown, IsAnswerTo, IsFirstUnknown}
+use Rattle.answers.specs.declared.answer.Answer.{Answer}
+use Rattle.answers.specs.declared.answer.Answer.TheVariants as answers
+use Rattle.interpretation_spec.specs.NumberedInterpretation.{NumberedInterpretation}
+use Rattle.program.specs.declared.question.Question.{Question}
+use Rattle.program.specs.declared.question.Question.TheVariants as questions
+use Rattle.program.specs.declared.question.Shown.{Shown}
 use Rattle.answers.specs.declared.explanation.Explanation.{Explanation}
 use Rattle.answers.specs.declared.explanation.Explanation.TheVariants.{Yes, No, Contradictory}
-use Rattle.session.specs.Answers.{AreInstances, IsFirstUnknown}
 use Rattle.session.specs.FactCounts.{HasNoMoreFactsThan}
 use Rattle.session.specs.Devices.{IsReadUntil}
 use Rattle.session.specs.Queries.{IsAnswer, IsUnanswerable, NamesFound}
@@ -37,7 +41,7 @@ pub record IsReadAs (version : Version) (most_bytes : ℕ) (document : Option (L
   pub reads : ReadsKnown version document most_bytes o
   pub taken : IsTaken o
 
--- ---- the individuals of a class
+-- ---- names
 
 -- a line for each name, behind the word
 abbrev pub name_lines : (word : List ℕ) → List Iri → List ℕ
@@ -56,65 +60,47 @@ group_text (name ∷ names) = name_text name ++ flat_map later_name names
 abbrev pub group_lines : List (List Iri) → List ℕ
 group_lines groups = flat_map (λ group. group_text group ++ line_feed) groups
 
--- the ontology has the class, and the lines are of exactly the individuals that belong to it in every finite interpretation of the
--- axioms, each once and in byte order
-pub record ListsInstances (o : Ontology) (class : Iri) (text : List ℕ) : Type 0 where
-  pub known : Contains o.names.classes class
-  pub names : List Iri
-  pub those : AreInstances o class names
-  pub lines : text ≡ name_lines [] names
-
--- the document reads as an ontology whose closure has at most so many facts and which has the class, and the lines of the text are of
--- exactly the individuals that belong to it in every finite interpretation of the axioms, each once and in byte order
-abbrev pub AnswersInstances : Limits → (document : Option (List ℕ)) → (class : Iri) → (text : List ℕ) → Type 0
-AnswersInstances limits document class text = (o : Ontology) × IsReadAs limits.version limits.max_bytes document o × HasNoMoreFactsThan o [] limits.max_facts × ListsInstances o class text
-
 -- ---- why something follows, or why not
 
--- an explanation as lines: whether it follows, and behind that the lines of the derivation or the interpretation
-abbrev pub lines_text : Ontology → Explanation → List ℕ
-lines_text o (Yes lines) = codes "yes\n" ++ proof_text o (lines_of lines.items)
-lines_text o (No i x) = refutation_text o.names i x
-lines_text o (Contradictory lines) = codes "contradictory\n" ++ proof_text o (lines_of lines.items)
+-- the lines of a derivation, behind the answer; or its graph
+abbrev pub derivation_shown : (graph : Bool) → (answer : List ℕ) → Ontology → List Line → List ℕ
+derivation_shown false answer o lines = answer ++ proof_text o lines
+derivation_shown true answer o lines = proof_graph o lines
 
--- an explanation as a graph: that of the derivation, or of the interpretation
-abbrev pub graph_text : Ontology → Explanation → List ℕ
-graph_text o (Yes lines) = proof_graph o (lines_of lines.items)
-graph_text o (No i x) = refutation_graph o.names i x
-graph_text o (Contradictory lines) = proof_graph o (lines_of lines.items)
+-- the lines of a refutation, or its graph; of all elements, or of those alone that are reached from the one that refutes
+abbrev pub IsRefutationShown : (graph reached : Bool) → Ontology → NumberedInterpretation → (element : ℕ) → (text : List ℕ) → Type 0
+IsRefutationShown false false o i x text = text ≡ refutation_text o.names i x
+IsRefutationShown true false o i x text = text ≡ refutation_graph o.names i x
+IsRefutationShown false true o i x text = IsOfReached i x (λ reached. reached_text o.names i reached x) text
+IsRefutationShown true true o i x text = IsOfReached i x (λ reached. reached_graph o.names i reached x) text
 
--- as lines, where a refutation has those of the elements alone that are reached from the one that refutes
-abbrev pub AreReachedLines : Ontology → Explanation → (text : List ℕ) → Type 0
-AreReachedLines o (Yes lines) text = text ≡ lines_text o (Yes lines)
-AreReachedLines o (No i x) text = IsOfReached i x (λ reached. reached_text o.names i reached x) text
-AreReachedLines o (Contradictory lines) text = text ≡ lines_text o (Contradictory lines)
+-- an explanation in the way that is asked for: as lines with whether it follows before those of a derivation, or as a graph
+abbrev pub IsShown : Ontology → Shown → Explanation → (text : List ℕ) → Type 0
+IsShown o shown (Yes lines) text = text ≡ derivation_shown shown.graph (codes "yes\n") o (lines_of lines.items)
+IsShown o shown (No i x) text = IsRefutationShown shown.graph shown.reached o i x text
+IsShown o shown (Contradictory lines) text = text ≡ derivation_shown shown.graph (codes "contradictory\n") o (lines_of lines.items)
 
--- as a graph likewise
-abbrev pub IsReachedGraph : Ontology → Explanation → (text : List ℕ) → Type 0
-IsReachedGraph o (Yes lines) text = text ≡ graph_text o (Yes lines)
-IsReachedGraph o (No i x) text = IsOfReached i x (λ reached. reached_graph o.names i reached x) text
-IsReachedGraph o (Contradictory lines) text = text ≡ graph_text o (Contradictory lines)
+-- ---- the answer to a question
 
--- an explanation in the form that is asked for
-abbrev pub IsShown : Ontology → Form → Explanation → (text : List ℕ) → Type 0
-IsShown o Lines explanation text = text ≡ lines_text o explanation
-IsShown o Graph explanation text = text ≡ graph_text o explanation
-IsShown o Reached explanation text = AreReachedLines o explanation text
-IsShown o ReachedGraph explanation text = IsReachedGraph o explanation text
+-- the text of an answer: a line for each name, or for each group; or the explanation as the question wants it
+abbrev pub IsAnswerText : Ontology → Question → Answer → (text : List ℕ) → Type 0
+IsAnswerText o (questions.Names related class) (answers.Names names) text = text ≡ name_lines [] (map (λ name. name.now) names.items)
+IsAnswerText o (questions.Groups side class) (answers.Groups groups) text = text ≡ group_lines (groups_in groups.items)
+IsAnswerText o (questions.Why asked class shown) (answers.Why explanation) text = IsShown o shown explanation text
+IsAnswerText o question answer text = ⊥
 
--- the ontology has both names, and the text is that of an explanation that shows whether the subject is in the class
-pub record ShowsExplanation (o : Ontology) (asked : Asked) (class : Iri) (form : Form) (text : List ℕ) : Type 0 where
-  pub subject : IsKnown o asked
-  pub known : Contains o.names.classes class
-  pub explanation : Explanation
-  pub explains : Explains o asked class explanation
-  pub shown : IsShown o form explanation text
+-- the ontology has the names of the question, and the text is that of an answer that says what is the case in every finite
+-- interpretation of the axioms
+pub record AnswersIn (o : Ontology) (question : Question) (text : List ℕ) : Type 0 where
+  pub known : AreKnown o question
+  pub answer : Answer
+  pub exact : IsAnswerTo o question answer
+  pub written : IsAnswerText o question answer text
 
--- the document reads as an ontology whose closure has at most so many facts and which has both names, and the text is that of an
--- explanation that shows whether the subject is in the class
-abbrev pub AnswersExplanation : Limits → (document : Option (List ℕ)) → Asked → (class : Iri) → Form → (text : List ℕ) → Type 0
-AnswersExplanation limits document asked class form text =
-    (o : Ontology) × IsReadAs limits.version limits.max_bytes document o × HasNoMoreFactsThan o [] limits.max_facts × ShowsExplanation o asked class form text
+-- the document reads as an ontology whose closure has at most so many facts, and by which the text answers the question
+abbrev pub AnswersQuestion : Limits → (document : Option (List ℕ)) → Question → (text : List ℕ) → Type 0
+AnswersQuestion limits document question text =
+    (o : Ontology) × IsReadAs limits.version limits.max_bytes document o × HasNoMoreFactsThan o [] limits.max_facts × AnswersIn o question text
 
 -- ---- the names of a class expression
 

@@ -11,7 +11,7 @@ use Rattle.session.specs.declared.question_fault.QuestionFault.{QuestionFault}
 use Rattle.session.specs.declared.question_fault.QuestionFault.TheVariants.{Document, Limit, UnknownName, Expression, Memory}
 use Rattle.answers.specs.declared.explanation.Explanation.{Explanation}
 use Rattle.answers.specs.declared.explanation.Explanation.TheVariants.{Yes, No, Contradictory}
-use Rattle.session.specs.Answers.{IsFirstUnknown}
+use Rattle.answers.specs.Questions.{IsFirstUnknown}
 use Rattle.session.specs.Queries.{IsUnanswerable}
 use Rattle.session.specs.Sessions.{Opened, as_read}
 use Rattle.session.specs.declared.query_fault.QueryFault.TheVariants as querying

@@ -30,7 +30,7 @@ pub(crate) fn push_lines(out: &mut Vec<u8>, word: &[u8], names: &[&str]) -> Resu
 /// # Errors
 ///
 /// `Memory` where memory was refused.
-pub fn lines_of_names(alloc: Global, names: &[&str]) -> Result<Vec<u8>, Memory>
+pub(crate) fn lines_of_names(alloc: Global, names: &[&str]) -> Result<Vec<u8>, Memory>
     ensures { IfOk result (λ v. v.items ≡ name_lines [] (map (λ s. s.now) names.now)) }
 {
     let mut out = Vec::new(alloc);
@@ -77,7 +77,7 @@ fn push_group(out: &mut Vec<u8>, group: &[&str]) -> Result<(), Memory>
 /// # Errors
 ///
 /// `Memory` where memory was refused.
-pub fn lines_of_groups(alloc: Global, groups: &[Vec<&str>]) -> Result<Vec<u8>, Memory>
+pub(crate) fn lines_of_groups(alloc: Global, groups: &[Vec<&str>]) -> Result<Vec<u8>, Memory>
     ensures { IfOk result (λ v. v.items ≡ group_lines (groups_in groups.now)) }
 {
     let mut out = Vec::new(alloc);

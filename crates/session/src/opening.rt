@@ -21,7 +21,7 @@ use std::alloc::Global;
 use std::hash::RandomState;
 
 /// Tells what was read, where progress is told.
-fn tell_opened<W: Sink>(session: &Session, told: bool, sink: &mut W)
+pub fn tell_opened<W: Sink>(session: &Session, told: bool, sink: &mut W)
     ensures { IsProgress told (seen W.Sink sink.old) (seen W.Sink sink.new) }
 {
     let bytes = session.bytes();

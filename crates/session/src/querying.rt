@@ -13,7 +13,7 @@ ghost use Rattle.std.specs.Prelude.{◌≡◌, ◌<◌, ◌≤◌, ◌∷◌, []
 
 use crate::query_fault::QueryFault;
 use crate::session::Session;
-use answers::{Question, answers};
+use answers::{Selection, selected};
 use axioms::{ExprId, Memory, Ontology};
 use engine::{Indexed, Saturation, Stop};
 use profile::{DocumentFault, read_expression};
@@ -72,11 +72,11 @@ fn answers_for<'o>(
     ensures { IfOk result (λ a. AreAnswersFor grown.now.ontology (expression grown.now.ontology expr.0) (names_in a)) }
 {
     let (classes, individuals) = (ontology.classes(), ontology.individuals());
-    let (above, below) = (Question::Above(expr), Question::Below(expr));
-    let members = Question::Members(expr);
-    let superclasses = answers(classes, grown, above)?;
-    let subclasses = answers(classes, grown, below)?;
-    let instances = answers(individuals, grown, members)?;
+    let (above, below) = (Selection::Above(expr), Selection::Below(expr));
+    let members = Selection::Members(expr);
+    let superclasses = selected(classes, grown, above)?;
+    let subclasses = selected(classes, grown, below)?;
+    let instances = selected(individuals, grown, members)?;
     Ok(Answers {
         superclasses,
         subclasses,

@@ -1,19 +1,23 @@
-//! Explanations as texts.
+//! Answers as texts.
+ghost use Rattle.answer_texts.specs.Proof.{proof_text};
+ghost use Rattle.answers.specs.Questions.{IsAnswerTo};
 ghost use Rattle.certificate.specs.Writability.{IsLineOf};
 ghost use Rattle.certificate.specs.View.{lines_of};
-ghost use Rattle.answer_texts.specs.Proof.{proof_text};
-ghost use Rattle.session.specs.TextAnswers.{IsReachedGraph, IsShown, AreReachedLines, graph_text, lines_text};
+ghost use Rattle.interpretation_spec.specs.NumberedInterpretation.{IsMadeFor};
+ghost use Rattle.session.specs.TextAnswers.{IsAnswerText, IsRefutationShown, IsShown, derivation_shown};
 ghost use Rattle.session.specs.Texts.{HasText};
 ghost use Rattle.std.specs.Prelude.{◌≡◌, ◌++◌, All, IfOk};
 
-use crate::form::Form;
+use crate::listed::{lines_of_groups, lines_of_names};
 use answer_texts::{
     proof_bytes, proof_graph_bytes, reached_refutation_bytes, reached_refutation_graph_bytes,
     refutation_bytes, refutation_graph_bytes,
 };
-use answers::Explanation;
+use answers::{Answer, Explanation};
 use axioms::{Memory, Ontology};
 use certificate::Line;
+use interpretation_spec::Interpretation;
+use program::{Question, Shown};
 use std::alloc::Global;
 
 /// The answer, and behind it the lines of a derivation.
@@ -33,98 +37,87 @@ fn answer_and_lines(
     Ok(out)
 }
 
-fn as_lines(
+/// A derivation as a graph, or as lines behind the answer.
+fn shown_derivation(
+    alloc: Global,
+    ontology: &Ontology,
+    answer: &[u8],
+    lines: &[Line],
+    graph: bool,
+) -> Result<Vec<u8>, Memory>
+    requires { All (IsLineOf ontology.now) (lines_of lines.now) }
+    ensures { IfOk result (λ v. v.items ≡ derivation_shown graph answer.now ontology.now (lines_of lines.now)) }
+{
+    if graph {
+        proof_graph_bytes(alloc, ontology, lines)
+    } else {
+        answer_and_lines(alloc, ontology, answer, lines)
+    }
+}
+
+/// A refutation in the way that is asked for.
+fn shown_refutation(
+    alloc: Global,
+    ontology: &Ontology,
+    interpretation: &Interpretation,
+    element: usize,
+    shown: Shown,
+) -> Result<Vec<u8>, Memory>
+    requires { IsMadeFor ontology.now.names interpretation.now }
+    ensures { IfOk result (λ v. IsRefutationShown shown.graph shown.reached ontology.now interpretation.now element v.items) }
+{
+    match (shown.graph, shown.reached) {
+        (false, false) => refutation_bytes(alloc, ontology, interpretation, element),
+        (true, false) => refutation_graph_bytes(alloc, ontology, interpretation, element),
+        (false, true) => reached_refutation_bytes(alloc, ontology, interpretation, element),
+        (true, true) => reached_refutation_graph_bytes(alloc, ontology, interpretation, element),
+    }
+}
+
+/// The explanation in the way that is asked for.
+fn shown_explanation(
     alloc: Global,
     ontology: &Ontology,
     explanation: &Explanation,
+    shown: Shown,
 ) -> Result<Vec<u8>, Memory>
     requires { HasText ontology.now explanation.now }
-    ensures { IfOk result (λ v. v.items ≡ lines_text ontology.now explanation.now) }
+    ensures { IfOk result (λ v. IsShown ontology.now shown explanation.now v.items) }
 {
     match explanation {
-        Explanation::Yes(lines) => answer_and_lines(alloc, ontology, b"yes\n", lines),
+        Explanation::Yes(lines) => {
+            shown_derivation(alloc, ontology, b"yes\n", lines, shown.graph)
+        }
         Explanation::No(interpretation, element) => {
-            refutation_bytes(alloc, ontology, interpretation, *element)
+            shown_refutation(alloc, ontology, interpretation, *element, shown)
         }
         Explanation::Contradictory(lines) => {
-            answer_and_lines(alloc, ontology, b"contradictory\n", lines)
+            shown_derivation(alloc, ontology, b"contradictory\n", lines, shown.graph)
         }
     }
 }
 
-fn as_graph(
-    alloc: Global,
-    ontology: &Ontology,
-    explanation: &Explanation,
-) -> Result<Vec<u8>, Memory>
-    requires { HasText ontology.now explanation.now }
-    ensures { IfOk result (λ v. v.items ≡ graph_text ontology.now explanation.now) }
-{
-    match explanation {
-        Explanation::Yes(lines) => proof_graph_bytes(alloc, ontology, lines),
-        Explanation::No(interpretation, element) => {
-            refutation_graph_bytes(alloc, ontology, interpretation, *element)
-        }
-        Explanation::Contradictory(lines) => proof_graph_bytes(alloc, ontology, lines),
-    }
-}
-
-/// As lines, where a refutation has those of the reached elements alone.
-fn as_reached_lines(
-    alloc: Global,
-    ontology: &Ontology,
-    explanation: &Explanation,
-) -> Result<Vec<u8>, Memory>
-    requires { HasText ontology.now explanation.now }
-    ensures { IfOk result (λ v. AreReachedLines ontology.now explanation.now v.items) }
-{
-    match explanation {
-        Explanation::No(interpretation, element) => {
-            reached_refutation_bytes(alloc, ontology, interpretation, *element)
-        }
-        Explanation::Yes(_) | Explanation::Contradictory(_) => {
-            as_lines(alloc, ontology, explanation)
-        }
-    }
-}
-
-/// As a graph, where a refutation has the reached elements alone.
-fn as_reached_graph(
-    alloc: Global,
-    ontology: &Ontology,
-    explanation: &Explanation,
-) -> Result<Vec<u8>, Memory>
-    requires { HasText ontology.now explanation.now }
-    ensures { IfOk result (λ v. IsReachedGraph ontology.now explanation.now v.items) }
-{
-    match explanation {
-        Explanation::No(interpretation, element) => {
-            reached_refutation_graph_bytes(alloc, ontology, interpretation, *element)
-        }
-        Explanation::Yes(_) | Explanation::Contradictory(_) => {
-            as_graph(alloc, ontology, explanation)
-        }
-    }
-}
-
-/// The explanation in that form.
+/// The text of the answer to a question: a line for each name, in angle brackets; a line for each group, with an equals sign between two
+/// names; or the explanation in the way that the question asks for.
 ///
 /// # Errors
 ///
 /// `Memory` where memory was refused.
-pub fn shown_explanation(
+pub fn answer_text(
     alloc: Global,
     ontology: &Ontology,
-    explanation: &Explanation,
-    form: Form,
+    question: Question<'_>,
+    answer: &Answer<'_>,
 ) -> Result<Vec<u8>, Memory>
-    requires { HasText ontology.now explanation.now }
-    ensures { IfOk result (λ v. IsShown ontology.now form explanation.now v.items) }
+    requires { IsAnswerTo ontology.now question answer.now }
+    ensures { IfOk result (λ v. IsAnswerText ontology.now question.entry answer.now v.items) }
 {
-    match form {
-        Form::Lines => as_lines(alloc, ontology, explanation),
-        Form::Graph => as_graph(alloc, ontology, explanation),
-        Form::Reached => as_reached_lines(alloc, ontology, explanation),
-        Form::ReachedGraph => as_reached_graph(alloc, ontology, explanation),
+    match (question, answer) {
+        (Question::Names(_, _), Answer::Names(names)) => lines_of_names(alloc, names),
+        (Question::Groups(_, _), Answer::Groups(groups)) => lines_of_groups(alloc, groups),
+        (Question::Why(_, _, shown), Answer::Why(explanation)) => {
+            shown_explanation(alloc, ontology, explanation, shown)
+        }
+        _ => unreachable!(),
     }
 }

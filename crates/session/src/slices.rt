@@ -27,8 +27,8 @@ fn first_end(told: bool, facts: usize, max_facts: u32) -> u32
     }
 }
 
-/// Tells how many facts there are, and how many are pending.
-fn tell_drawn<W: Sink>(session: &Session, told: bool, sink: &mut W)
+/// Tells how many facts there are, and how many are pending, where progress is told.
+pub fn tell_drawn<W: Sink>(session: &Session, told: bool, sink: &mut W)
     ensures { IsProgress told (seen W.Sink sink.old) (seen W.Sink sink.new) }
 {
     let facts = session.facts();

@@ -1,6 +1,5 @@
 -- Exchanges as calls of a session.
 use Rattle.std.proofs.Common.{◌≡◌, ◌⊎◌, ◌++◌, ◌∷◌, [], ℕ, List, Option, Some, None, Ok, Err, inl, inr, refl, sym, ap, ap₂, ◌∙◌, subst}
-use Rattle.answers.specs.declared.asked.Asked.TheVariants as subjects
 use Rattle.program.specs.declared.limits.Limits.{Limits}
 use Rattle.program.specs.declared.status.Status.{Status}
 use Rattle.program.specs.declared.status.Status.TheVariants as statuses
@@ -11,9 +10,8 @@ use Rattle.profile.specs.declared.fault.DocumentFault.TheVariants as reading
 use Rattle.session.proofs.Calls.{edits_are_one_document}
 use Rattle.session.specs.Devices.{Device}
 use Rattle.session.specs.Edits as calls
-use Rattle.session.specs.Edits.{Call, Reply, Add, Added, Resumed, Named, Grouped, Explained, Found, Written, AreCalls, IsCall, IsOneDocument, IsSessionOver, added}
+use Rattle.session.specs.Edits.{Call, Reply, Add, Added, Resumed, Answered, Found, Written, AreCalls, IsCall, IsOneDocument, IsSessionOver, added}
 use Rattle.session.specs.Sessions.{IsSession, Opened}
-use Rattle.session.specs.declared.form.Form.TheVariants.{Lines}
 use Rattle.session.specs.declared.question_fault.QuestionFault.TheVariants as faults
 use Rattle.speech.specs.Answers.{IsAnswerTold, IsFaultTold, IsStep, session_service}
 use Rattle.source_lines.specs.Sources.{SourceState}
@@ -53,15 +51,13 @@ refused limits size payload fault t (inl h) = told_as size payload t.status (sta
 refused limits size payload fault t (inr none) = told_as size payload t.status statuses.Memory (ap (λ (x : Told). x.status) none)
 
 add_tells : (limits : Limits) (size : ℕ) (payload : List ℕ) (old new : Opened) (t : Told) (reply : Reply) → IsCall old (Add payload) reply new
-    → IsAnswerTold limits Lines new reply t ⊎ ((added (Add payload) reply ≡ []) × (t ≡ out_of_memory)) → added (Add payload) reply ≡ told_added (Some (asked.Add size)) t.status payload
+    → IsAnswerTold limits (Add payload) new reply t ⊎ ((added (Add payload) reply ≡ []) × (t ≡ out_of_memory)) → added (Add payload) reply ≡ told_added (Some (asked.Add size)) t.status payload
 add_tells limits size payload old new t (Added (Ok made)) h (inl tells) = sym (told_as size payload t.status statuses.Done (ap (λ (x : Told). x.status) tells))
 add_tells limits size payload old new t (Added (Ok made)) h (inr (none, is)) = absurd (cc)
 add_tells limits size payload old new t (Added (Err fault)) h (inl tells) = sym (refused limits size payload fault t (inl tells))
 add_tells limits size payload old new t (Added (Err fault)) h (inr (none, is)) = sym (refused limits size payload fault t (inr is))
 add_tells limits size payload old new t (Resumed answer) h told = absurd h
-add_tells limits size payload old new t (Named answer) h told = absurd h
-add_tells limits size payload old new t (Grouped answer) h told = absurd h
-add_tells limits size payload old new t (Explained answer) h told = absurd h
+add_tells limits size payload old new t (Answered answer) h told = absurd h
 add_tells limits size payload old new t (Found answer) h told = absurd h
 add_tells limits size payload old new t (Written after answer) h told = absurd h
 
@@ -70,18 +66,7 @@ pub does : (limits : Limits) (old new : Opened) (command : Command) (payload : L
 does limits old new (asked.Add size) payload t (inl h) = Calls (Add payload) h.reply h.called (add_tells limits size payload old new t h.reply h.called h.answer)
 does limits old new (asked.Add size) payload t (inr (at, none, valid, said)) = Stays said.0 (refused limits size payload (reading.NotUtf8 at) t said.1)
 does limits old new asked.Run payload t h = Calls (calls.Resume limits.max_facts) h.reply h.called refl
-does limits old new (asked.Supers class) payload t h = Calls (calls.Superclasses class.now) h.reply h.called refl
-does limits old new (asked.Subs class) payload t h = Calls (calls.Subclasses class.now) h.reply h.called refl
-does limits old new (asked.Equivalents class) payload t h = Calls (calls.Equivalents class.now) h.reply h.called refl
-does limits old new (asked.Parents class) payload t h = Calls (calls.Parents class.now) h.reply h.called refl
-does limits old new (asked.Children class) payload t h = Calls (calls.Children class.now) h.reply h.called refl
-does limits old new (asked.Instances class) payload t h = Calls (calls.Instances class.now) h.reply h.called refl
-does limits old new (asked.Why subject class) payload t h = Calls (calls.Explain (subjects.Class subject) class.now) h.reply h.called refl
-does limits old new (asked.WhyIndividual subject class) payload t h = Calls (calls.Explain (subjects.Individual subject) class.now) h.reply h.called refl
-does limits old new (asked.Dot subject class) payload t h = Calls (calls.Explain (subjects.Class subject) class.now) h.reply h.called refl
-does limits old new (asked.WhyReached subject class) payload t h = Calls (calls.Explain (subjects.Class subject) class.now) h.reply h.called refl
-does limits old new (asked.WhyIndividualReached subject class) payload t h = Calls (calls.Explain (subjects.Individual subject) class.now) h.reply h.called refl
-does limits old new (asked.DotReached subject class) payload t h = Calls (calls.Explain (subjects.Class subject) class.now) h.reply h.called refl
+does limits old new (asked.Ask question) payload t h = Calls (calls.Ask question) h.reply h.called refl
 does limits old new (asked.Query size) payload t (inl h) = Calls (calls.Query payload limits.max_facts) h.reply h.called refl
 does limits old new (asked.Query size) payload t (inr (at, none, valid, said)) = Stays said.0 refl
 does limits old new (asked.Write paths) payload t (same, told) = Stays same refl

@@ -1,11 +1,16 @@
 -- How commands are spelled.
-use Rattle.std.specs.Prelude.{◌≡◌, ◌==◌, ◌⊎◌, ◌++◌, ◌∷◌, ◌<◌, ◌≤◌, ◌^◌, ℕ, List, [], Option, Some, None, codes, length}
+use Rattle.std.specs.Prelude.{◌≡◌, ◌==◌, ◌⊎◌, ◌++◌, ◌∷◌, ◌<◌, ◌≤◌, ◌^◌, ℕ, List, [], Bool, true, false, Option, Some, None, codes, length}
 use Rattle.std.specs.Fmt.{decimal}
 use Rattle.std.specs.List.{slice_split}
 use Rattle.std.specs.Str.{IsUtf8}
+use Rattle.program.specs.Questions.{related_word, side_word}
+use Rattle.program.specs.declared.question.Asked.{Asked}
+use Rattle.program.specs.declared.question.Asked.TheVariants.{Class, Individual}
+use Rattle.program.specs.declared.question.Question.{Question}
+use Rattle.program.specs.declared.question.Question.TheVariants.{Names, Groups, Why}
 use Rattle.speech.specs.declared.command.Command.{Command}
 use Rattle.speech.specs.declared.command.TextPaths.{TextPaths}
-use Rattle.speech.specs.declared.command.Command.TheVariants.{Add, Run, Supers, Subs, Equivalents, Parents, Children, Instances, Why, WhyIndividual, Dot, WhyReached, WhyIndividualReached, DotReached, Query, Write, Axiom, Status}
+use Rattle.speech.specs.declared.command.Command.TheVariants.{Add, Run, Ask, Query, Write, Axiom, Status}
 use Rattle.speech.specs.declared.line.LineFault.{LineFault}
 use Rattle.speech.specs.declared.line.LineFault.TheVariants as faults
 use Rattle.speech.specs.declared.words.Words.{Words}
@@ -15,22 +20,34 @@ use Rattle.speech.specs.declared.words.Words.TheVariants.{One, Two, Three, Four,
 abbrev pub split_words : List ℕ → List (List ℕ)
 split_words line = slice_split (λ b. b == 32) line
 
+-- with which a command asks whether, and why, what is asked of is in a class, as lines or as a graph
+abbrev pub why_word : Asked → (graph : Bool) → List ℕ
+why_word (Class c) false = codes "why"
+why_word (Class c) true = codes "dot"
+why_word (Individual a) false = codes "why-individual"
+why_word (Individual a) true = codes "dot-individual"
+
+-- the name of what is asked of
+abbrev pub subject_in : Asked → List ℕ
+subject_in (Class c) = c.now
+subject_in (Individual a) = a.now
+
+-- behind a question of whose refutation those elements alone are wanted that are reached
+abbrev pub reached_words : (reached : Bool) → List (List ℕ)
+reached_words false = []
+reached_words true = codes "reached" ∷ []
+
+-- the words of a question
+abbrev pub question_words : Question → List (List ℕ)
+question_words (Names related class) = related_word related ∷ class.now ∷ []
+question_words (Groups side class) = side_word side ∷ class.now ∷ []
+question_words (Why asked class shown) = why_word asked shown.graph ∷ subject_in asked ∷ class.now ∷ reached_words shown.reached
+
 -- the words of a command
 abbrev pub words_of : Command → List (List ℕ)
 words_of (Add size) = codes "add" ∷ decimal size ∷ []
 words_of Run = codes "run" ∷ []
-words_of (Supers class) = codes "supers" ∷ class.now ∷ []
-words_of (Subs class) = codes "subs" ∷ class.now ∷ []
-words_of (Equivalents class) = codes "equivalents" ∷ class.now ∷ []
-words_of (Parents class) = codes "parents" ∷ class.now ∷ []
-words_of (Children class) = codes "children" ∷ class.now ∷ []
-words_of (Instances class) = codes "instances" ∷ class.now ∷ []
-words_of (Why subject class) = codes "why" ∷ subject.now ∷ class.now ∷ []
-words_of (WhyIndividual subject class) = codes "why-individual" ∷ subject.now ∷ class.now ∷ []
-words_of (Dot subject class) = codes "dot" ∷ subject.now ∷ class.now ∷ []
-words_of (WhyReached subject class) = codes "why" ∷ subject.now ∷ class.now ∷ codes "reached" ∷ []
-words_of (WhyIndividualReached subject class) = codes "why-individual" ∷ subject.now ∷ class.now ∷ codes "reached" ∷ []
-words_of (DotReached subject class) = codes "dot" ∷ subject.now ∷ class.now ∷ codes "reached" ∷ []
+words_of (Ask question) = question_words question
 words_of (Query size) = codes "query" ∷ decimal size ∷ []
 words_of (Write paths) = codes "write" ∷ paths.taxonomy.now ∷ paths.instances.now ∷ paths.certificate.now ∷ []
 words_of (Axiom number) = codes "axiom" ∷ decimal number ∷ []
@@ -101,3 +118,13 @@ AreWords More words = (a b c d e : List ℕ) × (rest : List (List ℕ)) × (wor
 abbrev pub IsCommandOf : List (List ℕ) → Option Command → Type 0
 IsCommandOf words (Some command) = (words_of command ≡ words) × IsCounted (number_in command)
 IsCommandOf words None = (command : Command) → IsCounted (number_in command) → words_of command ≡ words → ⊥
+
+-- the question that has the words, or that there is none
+abbrev pub IsQuestionOf : List (List ℕ) → Option Question → Type 0
+IsQuestionOf words (Some question) = question_words question ≡ words
+IsQuestionOf words None = (question : Question) → question_words question ≡ words → ⊥
+
+-- what the verb asks of, and whether as a graph, or that it does not ask why
+abbrev pub IsSubjectOf : (verb subject : List ℕ) → Option (Asked × Bool) → Type 0
+IsSubjectOf verb subject (Some found) = (why_word found.0 found.1 ≡ verb) × (subject_in found.0 ≡ subject)
+IsSubjectOf verb subject None = (asked : Asked) (graph : Bool) → why_word asked graph ≡ verb → ⊥

@@ -1,6 +1,6 @@
 //! What a session answers, as replies.
-ghost use Rattle.session.specs.Texts.{HasText};
-ghost use Rattle.speech.specs.Answers.{IsAskTold, IsDoneWith, IsExplainedTold, IsFaultTold, IsFoundTold, IsGroupedTold, IsNamedTold, IsQueryTold, Tells, found, grouped, named, unfiled, unfinished};
+ghost use Rattle.answers.specs.Questions.{IsAnswerTo};
+ghost use Rattle.speech.specs.Answers.{IsAnsweredTold, IsAskTold, IsDoneWith, IsFaultTold, IsFoundTold, IsQueryTold, Tells, found, unfiled, unfinished};
 ghost use Rattle.std.specs.Prelude.{◌≡◌, IfOk};
 
 use crate::messages::question_message;
@@ -8,10 +8,9 @@ use crate::reply::Reply;
 use axioms::Ontology;
 use device::Memory;
 use profile::Limits;
-use program::Status;
+use program::{Question, Status};
 use session::{
-    Answers, AskFault, Explanation, Form, QueryFault, QuestionFault, lines_of_answers,
-    lines_of_groups, lines_of_names, shown_explanation,
+    Answer, Answers, AskFault, QueryFault, QuestionFault, answer_text, lines_of_answers,
 };
 use std::alloc::Global;
 
@@ -106,47 +105,19 @@ fn query_reply(alloc: Global, limits: &Limits, fault: QueryFault) -> Result<Repl
     }
 }
 
-/// The reply with names, a line each.
-pub(crate) fn names_reply(
-    alloc: Global,
-    limits: &Limits,
-    names: Result<Vec<&str>, AskFault<'_>>,
-) -> Result<Reply, Memory>
-    ensures { Tells (IsNamedTold limits.now (named names.entry)) result }
-{
-    match names {
-        Ok(names) => done_with(lines_of_names(alloc, &names)),
-        Err(fault) => ask_reply(alloc, limits, fault),
-    }
-}
-
-/// The reply with groups of names, a line each.
-pub(crate) fn groups_reply(
-    alloc: Global,
-    limits: &Limits,
-    groups: Result<Vec<Vec<&str>>, AskFault<'_>>,
-) -> Result<Reply, Memory>
-    ensures { Tells (IsGroupedTold limits.now (grouped groups.entry)) result }
-{
-    match groups {
-        Ok(groups) => done_with(lines_of_groups(alloc, &groups)),
-        Err(fault) => ask_reply(alloc, limits, fault),
-    }
-}
-
-/// The reply with why a subject is in a class, or why not.
-pub(crate) fn explained_reply(
+/// The reply with the answer to a question, or why there is none.
+pub(crate) fn answered_reply(
     alloc: Global,
     limits: &Limits,
     ontology: &Ontology,
-    form: Form,
-    explanation: Result<Explanation, AskFault<'_>>,
+    question: Question<'_>,
+    answer: Result<Answer<'_>, AskFault<'_>>,
 ) -> Result<Reply, Memory>
-    requires { IfOk explanation (HasText ontology.now) }
-    ensures { Tells (IsExplainedTold limits.now ontology.now form explanation.entry) result }
+    requires { IfOk answer (IsAnswerTo ontology.now question) }
+    ensures { Tells (IsAnsweredTold limits.now ontology.now question.entry answer.entry) result }
 {
-    match explanation {
-        Ok(explanation) => done_with(shown_explanation(alloc, ontology, &explanation, form)),
+    match answer {
+        Ok(answer) => done_with(answer_text(alloc, ontology, question, &answer)),
         Err(fault) => ask_reply(alloc, limits, fault),
     }
 }

@@ -2,6 +2,8 @@
 ghost use Rattle.speech.specs.Commands.{payload_size, text_paths};
 ghost use Rattle.std.specs.Prelude.{◌≡◌};
 
+use program::Question;
+
 /// The paths of the files of the three texts of a classification.
 #[derive(Clone, Copy, PartialEq, Eq)]
 pub struct TextPaths<'l> {
@@ -17,30 +19,8 @@ pub enum Command<'l> {
     Add(u64),
     /// To find out what follows.
     Run,
-    /// The classes above a class.
-    Supers(&'l str),
-    /// The classes below a class.
-    Subs(&'l str),
-    /// The classes that are the same as a class.
-    Equivalents(&'l str),
-    /// The classes directly above a class.
-    Parents(&'l str),
-    /// The classes directly below a class.
-    Children(&'l str),
-    /// The individuals of a class.
-    Instances(&'l str),
-    /// Why the first class is below the second, or why not.
-    Why(&'l str, &'l str),
-    /// Why an individual is in a class, or why not.
-    WhyIndividual(&'l str, &'l str),
-    /// The same of two classes as `Why`, as a graph.
-    Dot(&'l str, &'l str),
-    /// The same as `Why`, where a refutation has the elements alone that are reached.
-    WhyReached(&'l str, &'l str),
-    /// The same as `WhyIndividual`, where a refutation has the elements alone that are reached.
-    WhyIndividualReached(&'l str, &'l str),
-    /// The same as `Dot`, where a refutation has the elements alone that are reached.
-    DotReached(&'l str, &'l str),
+    /// To answer the question.
+    Ask(Question<'l>),
     /// The names of the class expression of a text of so many bytes.
     Query(u64),
     /// To write the texts of the classification into files.

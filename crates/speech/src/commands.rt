@@ -1,10 +1,11 @@
 //! Lines that are commands.
-ghost use Rattle.speech.specs.Commands.{IsCommandOf, Spells, SpellsNothing};
+ghost use Rattle.speech.specs.Commands.{IsCommandOf, IsQuestionOf, IsSubjectOf, Spells, SpellsNothing, reached_words};
 ghost use Rattle.std.specs.Prelude.{◌∷◌, [], IfNone, IfSome};
 
 use crate::command::{Command, TextPaths};
 use crate::sizes::size_of_word;
 use crate::words::{Words, words_in};
+use program::{Asked, Question, Related, Shown, Side};
 
 /// How many bytes a line has at most, before its line feed.
 pub const MOST_LINE: usize = 4096;
@@ -13,58 +14,69 @@ pub const MOST_LINE: usize = 4096;
 fn command_alone(verb: &str) -> Option<Command<'static>>
     ensures { IsCommandOf (verb.now ∷ []) result }
 {
-    if verb == "run" {
-        Some(Command::Run)
-    } else if verb == "status" {
-        Some(Command::Status)
-    } else {
-        None
+    match verb {
+        "run" => Some(Command::Run),
+        "status" => Some(Command::Status),
+        _ => None,
     }
+}
+
+/// The question about a class that the verb asks.
+fn question_of_class<'l>(verb: &str, class: &'l str) -> Option<Question<'l>>
+    ensures { IsQuestionOf (verb.now ∷ class.now ∷ []) result }
+{
+    if let Some(related) = Related::of_word(verb) {
+        return Some(Question::Names(related, class));
+    }
+    let side = Side::of_word(verb)?;
+    Some(Question::Groups(side, class))
 }
 
 /// The command of two words.
 fn command_with_word<'l>(verb: &str, word: &'l str) -> Option<Command<'l>>
     ensures { IsCommandOf (verb.now ∷ word.now ∷ []) result }
 {
-    if verb == "add" {
-        let size = size_of_word(word)?;
-        Some(Command::Add(size))
-    } else if verb == "query" {
-        let size = size_of_word(word)?;
-        Some(Command::Query(size))
-    } else if verb == "axiom" {
-        let number = size_of_word(word)?;
-        Some(Command::Axiom(number))
-    } else if verb == "supers" {
-        Some(Command::Supers(word))
-    } else if verb == "subs" {
-        Some(Command::Subs(word))
-    } else if verb == "equivalents" {
-        Some(Command::Equivalents(word))
-    } else if verb == "parents" {
-        Some(Command::Parents(word))
-    } else if verb == "children" {
-        Some(Command::Children(word))
-    } else if verb == "instances" {
-        Some(Command::Instances(word))
-    } else {
-        None
+    match verb {
+        "add" => Some(Command::Add(size_of_word(word)?)),
+        "query" => Some(Command::Query(size_of_word(word)?)),
+        "axiom" => Some(Command::Axiom(size_of_word(word)?)),
+        _ => Some(Command::Ask(question_of_class(verb, word)?)),
     }
+}
+
+/// Whether a class is asked of or an individual, and whether a graph is wanted, by the verb.
+fn subject_of<'l>(verb: &str, subject: &'l str) -> Option<(Asked<'l>, bool)>
+    ensures { IsSubjectOf verb.now subject.now result }
+{
+    match verb {
+        "why" => Some((Asked::Class(subject), false)),
+        "dot" => Some((Asked::Class(subject), true)),
+        "why-individual" => Some((Asked::Individual(subject), false)),
+        "dot-individual" => Some((Asked::Individual(subject), true)),
+        _ => None,
+    }
+}
+
+/// The question whether, and why, the subject is in the class, that the verb asks.
+fn question_of_subject<'l>(
+    verb: &str,
+    subject: &'l str,
+    class: &'l str,
+    reached: bool,
+) -> Option<Question<'l>>
+    ensures { IsQuestionOf (verb.now ∷ subject.now ∷ class.now ∷ reached_words reached) result }
+{
+    let (asked, graph) = subject_of(verb, subject)?;
+    let shown = Shown { graph, reached };
+    Some(Question::Why(asked, class, shown))
 }
 
 /// The command of three words.
 fn command_with_words<'l>(verb: &str, subject: &'l str, class: &'l str) -> Option<Command<'l>>
     ensures { IsCommandOf (verb.now ∷ subject.now ∷ class.now ∷ []) result }
 {
-    if verb == "why" {
-        Some(Command::Why(subject, class))
-    } else if verb == "why-individual" {
-        Some(Command::WhyIndividual(subject, class))
-    } else if verb == "dot" {
-        Some(Command::Dot(subject, class))
-    } else {
-        None
-    }
+    let question = question_of_subject(verb, subject, class, false)?;
+    Some(Command::Ask(question))
 }
 
 /// The command of four words, of which the last asks for what is reached where the first does not ask to write.
@@ -82,14 +94,9 @@ fn command_with_all<'l>(
             instances: class,
             certificate: last,
         }))
-    } else if last != "reached" {
-        None
-    } else if verb == "why" {
-        Some(Command::WhyReached(subject, class))
-    } else if verb == "why-individual" {
-        Some(Command::WhyIndividualReached(subject, class))
-    } else if verb == "dot" {
-        Some(Command::DotReached(subject, class))
+    } else if last == "reached" {
+        let question = question_of_subject(verb, subject, class, true)?;
+        Some(Command::Ask(question))
     } else {
         None
     }

@@ -1,23 +1,19 @@
 //! A session that answers commands.
-ghost use Rattle.answers.specs.declared.asked.Asked.TheVariants as subjects;
-ghost use Rattle.session.specs.Edits.{Add, Children, Equivalents, Explain, Instances, Parents, Query, Resume, Subclasses, Superclasses};
-ghost use Rattle.session.specs.declared.form.Form.TheVariants.{Lines};
+ghost use Rattle.session.specs.Edits.{Add, Ask, Query, Resume};
 ghost use Rattle.profile.specs.declared.fault.DocumentFault.TheVariants.{NotUtf8};
 ghost use Rattle.session.specs.declared.question_fault.QuestionFault.TheVariants as faults;
 ghost use Rattle.speech.specs.Answers.{IsCalled, IsFaultTold, IsStep, IsTextCalled, Tells, axiom_at, axiom_told, done, run_text, status_text};
 ghost use Rattle.speech.specs.Replies.{told_by};
 ghost use Rattle.std.specs.Prelude.{◌≡◌, None};
 
-use crate::answering::{
-    done_reply, explained_reply, fault_reply, found_reply, groups_reply, names_reply, unfiled_reply,
-};
+use crate::answering::{answered_reply, done_reply, fault_reply, found_reply, unfiled_reply};
 use crate::command::Command;
 use crate::reply::Reply;
 use crate::service::Service;
 use device::Memory;
 use profile::{DocumentFault, Limits};
-use program::Status;
-use session::{Asked, Form, QuestionFault, Session, Stop};
+use program::{Question, Status};
+use session::{QuestionFault, Session, Stop};
 use std::alloc::Global;
 use std::str::from_utf8;
 
@@ -58,7 +54,7 @@ impl SessionService {
 
     /// Finds out what follows.
     fn run(&mut self) -> Result<Reply, Memory>
-        ensures step { IsCalled self.old.limits Lines (Resume self.old.limits.max_facts) self.old.session (told_by result) self.new.session }
+        ensures step { IsCalled self.old.limits (Resume self.old.limits.max_facts) self.old.session (told_by result) self.new.session }
         ensures limits { self.new.limits ≡ self.old.limits }
     {
         match self.session.resume(self.limits.max_facts) {
@@ -116,49 +112,13 @@ impl SessionService {
         }
     }
 
-    fn supers(&self, class: &str) -> Result<Reply, Memory>
-        ensures { IsCalled self.now.limits Lines (Superclasses class.now) self.now.session (told_by result) self.now.session }
+    /// The answer to the question.
+    fn ask(&self, question: Question<'_>) -> Result<Reply, Memory>
+        ensures { IsCalled self.now.limits (Ask question.entry) self.now.session (told_by result) self.now.session }
     {
-        names_reply(self.alloc, &self.limits, self.session.superclasses(class))
-    }
-
-    fn subs(&self, class: &str) -> Result<Reply, Memory>
-        ensures { IsCalled self.now.limits Lines (Subclasses class.now) self.now.session (told_by result) self.now.session }
-    {
-        names_reply(self.alloc, &self.limits, self.session.subclasses(class))
-    }
-
-    fn equivalents(&self, class: &str) -> Result<Reply, Memory>
-        ensures { IsCalled self.now.limits Lines (Equivalents class.now) self.now.session (told_by result) self.now.session }
-    {
-        names_reply(self.alloc, &self.limits, self.session.equivalents(class))
-    }
-
-    fn parents(&self, class: &str) -> Result<Reply, Memory>
-        ensures { IsCalled self.now.limits Lines (Parents class.now) self.now.session (told_by result) self.now.session }
-    {
-        groups_reply(self.alloc, &self.limits, self.session.parents(class))
-    }
-
-    fn children(&self, class: &str) -> Result<Reply, Memory>
-        ensures { IsCalled self.now.limits Lines (Children class.now) self.now.session (told_by result) self.now.session }
-    {
-        groups_reply(self.alloc, &self.limits, self.session.children(class))
-    }
-
-    fn instances(&self, class: &str) -> Result<Reply, Memory>
-        ensures { IsCalled self.now.limits Lines (Instances class.now) self.now.session (told_by result) self.now.session }
-    {
-        names_reply(self.alloc, &self.limits, self.session.instances(class))
-    }
-
-    /// Why the subject is in the class, or why not.
-    fn why(&self, asked: Asked<'_>, class: &str, form: Form) -> Result<Reply, Memory>
-        ensures { IsCalled self.now.limits form (Explain asked.entry class.now) self.now.session (told_by result) self.now.session }
-    {
-        let explanation = self.session.explain(asked, class);
+        let answer = self.session.ask(question);
         let ontology = self.session.ontology();
-        explained_reply(self.alloc, &self.limits, ontology, form, explanation)
+        answered_reply(self.alloc, &self.limits, ontology, question, answer)
     }
 
     /// The names of the class expression that the bytes are.
@@ -184,26 +144,7 @@ impl SessionService {
         match command {
             Command::Add(_) => self.add(payload),
             Command::Run => self.run(),
-            Command::Supers(class) => self.supers(class),
-            Command::Subs(class) => self.subs(class),
-            Command::Equivalents(class) => self.equivalents(class),
-            Command::Parents(class) => self.parents(class),
-            Command::Children(class) => self.children(class),
-            Command::Instances(class) => self.instances(class),
-            Command::Why(subject, class) => self.why(Asked::Class(subject), class, Form::Lines),
-            Command::WhyIndividual(subject, class) => {
-                self.why(Asked::Individual(subject), class, Form::Lines)
-            }
-            Command::Dot(subject, class) => self.why(Asked::Class(subject), class, Form::Graph),
-            Command::WhyReached(subject, class) => {
-                self.why(Asked::Class(subject), class, Form::Reached)
-            }
-            Command::WhyIndividualReached(subject, class) => {
-                self.why(Asked::Individual(subject), class, Form::Reached)
-            }
-            Command::DotReached(subject, class) => {
-                self.why(Asked::Class(subject), class, Form::ReachedGraph)
-            }
+            Command::Ask(question) => self.ask(question),
             Command::Query(_) => self.query(payload),
             Command::Write(_) => unfiled_reply(self.alloc),
             Command::Axiom(number) => self.axiom(number),

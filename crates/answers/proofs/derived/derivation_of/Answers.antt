@@ -2,7 +2,7 @@ use Rattle.std.proofs.Common.{sym, subst}
 use Rattle.axioms.specs.Ontology.{nothing}
 use Rattle.answers.proofs.Lent.{whole_ontology}
 use Rattle.answers.proofs.Explaining.{at_some, derives_with}
-use Rattle.answers.specs.Explanations.{Derives}
+use Rattle.explain.specs.Needs.{Derives}
 use Rattle.certificate.specs.Certificate.{Subject, Sub}
 use Rattle.certificate.specs.View.{lines_of}
 use Rattle.certificate.specs.View.{subject_of as subject_in}
@@ -10,8 +10,8 @@ use Rattle.closure.specs.Closure.{IsRoot}
 use Rattle.closure.specs.Denotations.{context_of}
 use Rattle.answers.proofs.derived.derivation_of.Goals as goal
 
-pub derivation_by_fact-requires-2-clause-class : goal.derivation_by_fact-requires-2-clause-class
-derivation_by_fact-requires-2-clause-class c = IsRoot.named _ nothing (whole_ontology c.closed-closed.ensures c.well_formed-2.ensures.ontology).nothing_node
+pub lines_of-requires-2-clause-class : goal.lines_of-requires-2-clause-class
+lines_of-requires-2-clause-class c = IsRoot.named _ nothing (whole_ontology c.closed-closed.ensures c.well_formed-2.ensures.ontology).nothing_node
 
 pub returns-in_ok-with_class-in-Some-2 : goal.returns-in_ok-with_class-in-Some-2
 returns-in_ok-with_class-in-Some-2 c =

@@ -1,6 +1,6 @@
 use Rattle.std.proofs.Common.{ℕ, Option, sym, subst}
-use Rattle.answers.specs.Questions.{IsAnswer}
-use Rattle.answers.specs.declared.question.Question.TheVariants.{Above}
+use Rattle.answers.specs.Selections.{IsAnswer}
+use Rattle.answers.specs.declared.selection.Selection.TheVariants.{Above}
 use Rattle.answers.proofs.Marking.{no_above}
 use Rattle.answers.proofs.marks.above.Goals as goal
 

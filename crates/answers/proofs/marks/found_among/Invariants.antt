@@ -1,7 +1,7 @@
 use Rattle.std.proofs.Common.{◌≡◌, ◌⊎◌, true}
 use Rattle.classification.specs.Lists.{SomeFact}
 use Rattle.answers.specs.Names.{IsMarked}
-use Rattle.answers.specs.Questions.{Answers}
+use Rattle.answers.specs.Selections.{Answers}
 use Rattle.answers.proofs.Among.{AreMarksBelow}
 use Rattle.answers.proofs.marks.found_among.Given as goal
 

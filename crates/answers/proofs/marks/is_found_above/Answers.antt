@@ -1,6 +1,6 @@
 use Rattle.std.proofs.Common.{ℕ, subst}
 use Rattle.std.proofs.lemmas.Bool.{false≢true}
-use Rattle.answers.specs.Questions.{PutsExpression}
+use Rattle.answers.specs.Selections.{PutsExpression}
 use Rattle.answers.proofs.marks.is_found_above.Goals as goal
 
 pub returns-in-Some : goal.returns-in-Some

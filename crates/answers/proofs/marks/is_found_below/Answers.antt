@@ -1,7 +1,7 @@
 use Rattle.std.proofs.Common.{◌∙◌, ℕ, inr, ⊎_elim, subst, sym}
 use Rattle.std.proofs.lemmas.Bool.{false≢true}
 use Rattle.axioms.specs.Ontology.{nothing}
-use Rattle.answers.specs.Questions.{PutsExpression}
+use Rattle.answers.specs.Selections.{PutsExpression}
 use Rattle.answers.proofs.marks.is_found_below.Goals as goal
 
 pub returns-else-is_put : goal.returns-else-is_put

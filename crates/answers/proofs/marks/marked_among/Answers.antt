@@ -2,7 +2,7 @@ use Rattle.std.proofs.Common.{◌≡◌, ◌↔◌, ◌<◌, ◌⊎◌, ℕ, ◌
 use Rattle.std.proofs.lemmas.List.{with_items_is}
 use Rattle.std.proofs.lemmas.Option.{slice_get-get_or, slice_get_within}
 use Rattle.lemmas.proofs.Members.{Contains-from_slice_get}
-use Rattle.answers.specs.Questions.{Answers}
+use Rattle.answers.specs.Selections.{Answers}
 use Rattle.answers.specs.Names.{IsMarked}
 use Rattle.answers.proofs.Among.{AreMarksBefore, marks_more, marks_of_all, may_answer}
 use Rattle.answers.proofs.marks.marked_among.Goals as goal

@@ -1,4 +1,4 @@
-use Rattle.answers.specs.Questions.{Answers}
+use Rattle.answers.specs.Selections.{Answers}
 use Rattle.answers.proofs.Among.{AreMarksBefore}
 use Rattle.answers.proofs.marks.marked_among.Given as goal
 

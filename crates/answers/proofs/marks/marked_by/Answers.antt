@@ -1,7 +1,7 @@
 use Rattle.std.proofs.Common.{◌≡◌, ◌↔◌, ◌<◌, ◌⊎◌, ℕ, ◌+◌, List, Bool, Some, length, take, sym, ap, ◌∙◌, subst}
 use Rattle.std.proofs.lemmas.List.{with_items_is}
 use Rattle.std.proofs.lemmas.Option.{slice_get-get_or}
-use Rattle.answers.specs.Questions.{Answers, AreMarks}
+use Rattle.answers.specs.Selections.{Answers, AreMarks}
 use Rattle.answers.specs.Names.{IsMarked}
 use Rattle.answers.proofs.MarkedFacts.{marks_more}
 use Rattle.answers.proofs.marks.marked_by.Goals as goal

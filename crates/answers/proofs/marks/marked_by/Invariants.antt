@@ -1,5 +1,5 @@
 use Rattle.std.proofs.Common.{take}
-use Rattle.answers.specs.Questions.{Answers, AreMarks}
+use Rattle.answers.specs.Selections.{Answers, AreMarks}
 use Rattle.answers.proofs.marks.marked_by.Given as goal
 
 abbrev pub invariant-loop-fact : goal.invariant-loop-fact

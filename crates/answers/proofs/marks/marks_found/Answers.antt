@@ -1,5 +1,5 @@
 use Rattle.std.proofs.Common.{◌∙◌}
-use Rattle.answers.specs.Questions.{Answers}
+use Rattle.answers.specs.Selections.{Answers}
 use Rattle.answers.proofs.Among.{marks_among_all}
 use Rattle.answers.proofs.NamedSides.{ok_both}
 use Rattle.answers.proofs.marks.marks_found.Goals as goal

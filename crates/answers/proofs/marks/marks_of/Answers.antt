@@ -1,6 +1,6 @@
 use Rattle.std.proofs.Common.{List, sym, subst}
 use Rattle.facts.specs.declared.contexts.Fact.{Fact}
-use Rattle.answers.specs.Questions.{MayAnswer}
+use Rattle.answers.specs.Selections.{MayAnswer}
 use Rattle.saturate.specs.ServedFacts.{AreNumbersOf}
 use Rattle.answers.proofs.Lent.{same_facts}
 use Rattle.answers.proofs.marks.marks_of.Goals as goal

@@ -1,6 +1,6 @@
 use Rattle.std.proofs.Common.{ℕ, Option, sym, subst}
-use Rattle.answers.specs.Questions.{IsAnswer}
-use Rattle.answers.specs.declared.question.Question.TheVariants.{Members}
+use Rattle.answers.specs.Selections.{IsAnswer}
+use Rattle.answers.specs.declared.selection.Selection.TheVariants.{Members}
 use Rattle.answers.proofs.Marking.{no_member}
 use Rattle.answers.proofs.marks.member.Goals as goal
 

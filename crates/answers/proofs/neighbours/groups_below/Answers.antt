@@ -8,11 +8,11 @@ use Rattle.closure.specs.Closure.{IsRoot}
 use Rattle.answers.specs.Entailment.{LiesBelow}
 use Rattle.answers.specs.Names.{HasMark, IsMarked, groups_in}
 use Rattle.answers.specs.Neighbours.{AreGroups, AreMarksAmong, AreSatisfiable, IsNearer, IsNearest}
-use Rattle.answers.specs.Questions.{FollowsFor}
-use Rattle.answers.specs.declared.question.Question.TheVariants.{Below}
+use Rattle.answers.specs.Selections.{FollowsFor}
+use Rattle.answers.specs.declared.selection.Selection.TheVariants.{Below}
 use Rattle.answers.proofs.Lent.{whole_ontology}
 use Rattle.answers.proofs.NamedSides.{below_is}
-use Rattle.answers.specs.declared.nearest.Side.TheVariants as sides
+use Rattle.program.specs.declared.question.Side.TheVariants as sides
 use Rattle.answers.proofs.Neighbouring.{among_same, children_are, lone_children_are, marks_apart, one_group_below, satisfiable_below}
 use Rattle.answers.proofs.neighbours.groups_below.Goals as goal
 

@@ -1,6 +1,6 @@
 use Rattle.std.proofs.lemmas.Result.{IfOk-weaker}
-use Rattle.answers.specs.Questions.{FollowsFor}
-use Rattle.answers.specs.declared.question.Question.TheVariants.{Below}
+use Rattle.answers.specs.Selections.{FollowsFor}
+use Rattle.answers.specs.declared.selection.Selection.TheVariants.{Below}
 use Rattle.answers.proofs.Lent.{whole_ontology, whole_saturation}
 use Rattle.answers.proofs.AnsweredByFacts.{among_follow}
 use Rattle.answers.proofs.NamedSides.{ok_both}

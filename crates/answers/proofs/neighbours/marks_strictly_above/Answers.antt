@@ -1,7 +1,7 @@
 use Rattle.std.proofs.Common.{◌∙◌, ap, length, List, Bool, sym, subst, subst₂}
 use Rattle.answers.specs.Neighbours.{AreMarksAmong, AreMarksOf}
-use Rattle.answers.specs.Questions.{FollowsFor}
-use Rattle.answers.specs.declared.question.Question.TheVariants.{Above, Below}
+use Rattle.answers.specs.Selections.{FollowsFor}
+use Rattle.answers.specs.declared.selection.Selection.TheVariants.{Above, Below}
 use Rattle.answers.proofs.NamedSides.{ok_both, strictly_above}
 use Rattle.answers.proofs.neighbours.marks_strictly_above.Goals as goal
 

@@ -1,7 +1,7 @@
 use Rattle.std.proofs.Common.{List, Bool, sym, subst}
 use Rattle.answers.specs.Neighbours.{AreMarksOf}
-use Rattle.answers.specs.Questions.{FollowsFor}
-use Rattle.answers.specs.declared.question.Question.TheVariants.{Above, Below}
+use Rattle.answers.specs.Selections.{FollowsFor}
+use Rattle.answers.specs.declared.selection.Selection.TheVariants.{Above, Below}
 use Rattle.answers.proofs.NamedSides.{ok_both, strictly_below}
 use Rattle.answers.proofs.neighbours.marks_strictly_below.Goals as goal
 

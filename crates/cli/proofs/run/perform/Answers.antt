@@ -25,25 +25,15 @@ returns-in-Check-clause-performed g c =
     let P : Command → Type 0 = λ command. RunsTelling g.F.Files g.O.Sink g.E.Sink task.progress command task.limits (c.args.files.now, c.args.out.now, c.args.err.now) (c.args.files.now, call.new.out, call.new.err) call.result in
     inl (task, c.in-Ok.ensures.asked, subst P (sym c.in-Check.is) call.ensures)
 
-pub returns-in-Instances-clause-performed : goal.returns-in-Instances-clause-performed
-returns-in-Instances-clause-performed g c =
+pub returns-in-Ask-clause-performed : goal.returns-in-Ask-clause-performed
+returns-in-Ask-clause-performed g c =
     let task = c.in-Ok.task in
-    let call = c.perform_instances in
+    let call = c.perform_ask in
     let old = outputs g.O.Sink g.E.Sink c.args.out.now c.args.err.now in
     let new = outputs g.O.Sink g.E.Sink call.new.out call.new.err in
     let files = g.F.Files in
     let P : Command → Type 0 = λ command. IsCommandRun task.progress command task.limits (store files c.args.files.now c.args.files.now) (files.content c.args.files.now) (files.content c.args.files.now) old new call.result in
-    inl (task, c.in-Ok.ensures.asked, nothing_told task.progress old _ (subst P (sym c.in-Instances.is) call.ensures))
-
-pub returns-in-Explain-clause-performed : goal.returns-in-Explain-clause-performed
-returns-in-Explain-clause-performed g c =
-    let task = c.in-Ok.task in
-    let call = c.perform_explain in
-    let old = outputs g.O.Sink g.E.Sink c.args.out.now c.args.err.now in
-    let new = outputs g.O.Sink g.E.Sink call.new.out call.new.err in
-    let files = g.F.Files in
-    let P : Command → Type 0 = λ command. IsCommandRun task.progress command task.limits (store files c.args.files.now c.args.files.now) (files.content c.args.files.now) (files.content c.args.files.now) old new call.result in
-    inl (task, c.in-Ok.ensures.asked, nothing_told task.progress old _ (subst P (sym c.in-Explain.is) call.ensures))
+    inl (task, c.in-Ok.ensures.asked, nothing_told task.progress old _ (subst P (sym c.in-Ask.is) call.ensures))
 
 pub returns-in-Query-clause-performed : goal.returns-in-Query-clause-performed
 returns-in-Query-clause-performed g c =

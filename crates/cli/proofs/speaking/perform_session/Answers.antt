@@ -29,7 +29,7 @@ returns-in-Err g c =
 
 pub returns-in_default : goal.returns-in_default
 returns-in_default g c = record {
-  begun = outputs g.O.Sink g.E.Sink c.args.out.now c.tell_opened.new.err;
+  begun = outputs g.O.Sink g.E.Sink c.args.out.now c.tell_opened.new.sink;
   unprinted = refl;
   progress = c.tell_opened.ensures;
   holds = inr (inr (record {

@@ -2,7 +2,7 @@ use Rattle.std.proofs.Common.{◌≡◌, ◌∙◌, ap, subst, ℕ, List, [], �
 use Rattle.engine.specs.Saturations.{HasMoreFactsThan}
 use Rattle.inference.specs.declared.known_facts.Stop.TheVariants as stops
 use Rattle.normalise.specs.Listing.{Listing}
-use Rattle.session.proofs.Asking.{asked_alone}
+use Rattle.session.proofs.Expressions.{asked_alone}
 use Rattle.session.proofs.querying.saturated_with.Goals as goal
 
 pub returns-in-Ok-clause-sound : goal.returns-in-Ok-clause-sound

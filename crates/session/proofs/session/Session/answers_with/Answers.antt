@@ -1,6 +1,6 @@
 use Rattle.std.proofs.Common.{◌<◌, [], ◌∷◌, length, subst, sym}
 use Rattle.engine.specs.Closed.{Closed}
-use Rattle.session.proofs.Asking.{is_there}
+use Rattle.session.proofs.Expressions.{is_there}
 use Rattle.session.proofs.Counting.{no_more}
 use Rattle.session.proofs.session.Session.answers_with.Goals as goal
 

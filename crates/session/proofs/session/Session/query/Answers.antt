@@ -1,6 +1,6 @@
 use Rattle.std.proofs.Common.{refl, subst}
 use Rattle.engine.specs.Saturations.{IsFinished}
-use Rattle.session.proofs.Asking.{answered, unanswered}
+use Rattle.session.proofs.Expressions.{answered, unanswered}
 use Rattle.session.specs.Queries.{names_in}
 use Rattle.session.specs.Sessions.{Opened}
 use Rattle.session.proofs.session.Session.query.Goals as goal

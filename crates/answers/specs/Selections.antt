@@ -1,0 +1,81 @@
+-- What facts answer about a class expression, and what follows about it.
+use Rattle.std.specs.Prelude.{◌≡◌, ◌↔◌, ◌⊎◌, ◌<◌, ℕ, List, Bool, true, length, Option, Some}
+use Rattle.axioms.specs.Expression.{Iri, Named}
+use Rattle.axioms.specs.Ontology.{Ontology, IsClassAt, nothing, expression, axiom_trees}
+use Rattle.classification.specs.Lists.{SomeFact}
+use Rattle.engine.specs.Saturations.{Saturated}
+use Rattle.exactness.specs.ListedInterpretation.{IsConsistent}
+use Rattle.facts.specs.declared.contexts.Context.TheVariants as contexts
+use Rattle.facts.specs.declared.contexts.Fact.{Fact}
+use Rattle.facts.specs.declared.contexts.Fact.TheVariants.{In}
+use Rattle.indexes.specs.FactIndex.{IsIn}
+use Rattle.interpretation_spec.specs.Interpretation.{IsBelow, IsMember}
+use Rattle.normal_forms.specs.declared.forms.Class2.TheVariants.{Expr}
+use Rattle.answers.specs.Names.{IsMarked}
+use Rattle.answers.specs.declared.selection.Selection.{Selection}
+use Rattle.answers.specs.declared.selection.Selection.TheVariants.{Above, Below, Members}
+
+-- the number of the expression that is asked about
+abbrev pub expression_asked : Selection → ℕ
+expression_asked (Above e) = e.0
+expression_asked (Below e) = e.0
+expression_asked (Members e) = e.0
+
+-- the names among which the answers are
+abbrev pub names_asked : Ontology → Selection → List Iri
+names_asked o (Above e) = o.names.classes
+names_asked o (Below e) = o.names.classes
+names_asked o (Members e) = o.names.individuals
+
+-- the name is an answer in every finite interpretation of the axioms
+abbrev pub FollowsFor : Ontology → Selection → Iri → Type 0
+FollowsFor o (Above e) name = IsBelow (axiom_trees o) (expression o e.0) (Named name)
+FollowsFor o (Below e) name = IsBelow (axiom_trees o) (Named name) (expression o e.0)
+FollowsFor o (Members e) name = IsMember (axiom_trees o) name (expression o e.0)
+
+-- ---- by facts
+
+-- the fact puts the expression of number e in that of number f
+abbrev pub PutsExpression : Fact → ℕ → ℕ → Type 0
+PutsExpression fact e f = fact ≡ In (Expr (record { 0 = f })) (contexts.Expr (record { 0 = e }))
+
+-- the fact puts the individual of number a in the expression of number f
+abbrev pub PutsIndividual : Fact → ℕ → ℕ → Type 0
+PutsIndividual fact a f = fact ≡ In (Expr (record { 0 = f })) (contexts.Individual (record { 0 = a }))
+
+-- the fact answers the question with this number: of a class that the expression is put in, or that is put in the expression or in
+-- owl:Nothing, or of an individual that is put in the expression
+abbrev pub Answers : Ontology → Selection → Fact → ℕ → Type 0
+Answers o (Above e) fact n = (f : ℕ) × IsClassAt o n f × PutsExpression fact e.0 f
+Answers o (Below e) fact n = (f : ℕ) × IsClassAt o n f × (PutsExpression fact f e.0 ⊎ PutsExpression fact f nothing)
+Answers o (Members e) fact n = PutsIndividual fact n e.0
+
+-- such facts alone may answer it: those that put a class into the expression that is asked about, or any
+abbrev pub MayAnswer : Selection → Fact → Type 0
+MayAnswer (Above e) fact = IsIn (contexts.Expr e) fact
+MayAnswer (Below e) fact = Unit {0}
+MayAnswer (Members e) fact = Unit {0}
+
+-- the number is the only one that is given, or none is
+abbrev pub IsOnly : (ℕ → Type 0) → Option ℕ → Type 0
+IsOnly gives found = (n : ℕ) → gives n ↔ (found ≡ Some n)
+
+-- the number is the one that the fact answers with, or it answers with none
+abbrev pub IsAnswer : Ontology → Selection → Fact → Option ℕ → Type 0
+IsAnswer o question fact answer = IsOnly (Answers o question fact) answer
+
+-- every name is an answer: there is no finite interpretation of the axioms, or the expression has no element in any
+abbrev pub IsEvery : Ontology → Saturated → Selection → Type 0
+IsEvery o s (Above e) = (IsConsistent o s.normal.asked → ⊥) ⊎ SomeFact s.state.facts (λ fact. PutsExpression fact e.0 nothing)
+IsEvery o s (Below e) = IsConsistent o s.normal.asked → ⊥
+IsEvery o s (Members e) = IsConsistent o s.normal.asked → ⊥
+
+-- so many marks: on all numbers, or on those that some fact gives
+pub record AreMarks (gives : Fact → ℕ → Type 0) (facts : List Fact) (every : Bool) (size : ℕ) (marks : List Bool) : Type 0 where
+  pub long : length marks ≡ size
+  pub exact : (n : ℕ) → n < size → IsMarked marks n ↔ ((every ≡ true) ⊎ SomeFact facts (λ fact. gives fact n))
+
+-- so many marks, on the numbers that answer the question
+pub record AreAnswers (o : Ontology) (s : Saturated) (question : Selection) (size : ℕ) (marks : List Bool) : Type 0 where
+  pub long : length marks ≡ size
+  pub exact : (n : ℕ) → n < size → IsMarked marks n ↔ (IsEvery o s question ⊎ SomeFact s.state.facts (λ fact. Answers o question fact n))
