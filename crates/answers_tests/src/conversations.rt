@@ -173,6 +173,56 @@ ok 0
 ok 0
 ";
 
+/// What is asked of individuals, as graphs.
+const ASKED_GRAPHS: &str = "add 55
+ClassAssertion(:A :a) ObjectPropertyAssertion(:r :b :c)
+dot-individual x:a x:B
+run
+dot-individual x:a x:B
+dot-individual x:b x:B
+dot-individual x:b x:B reached
+dot-individual x:A x:B
+dot-individual x:a
+dot-individual x:a x:B all
+";
+
+/// What is replied.
+const REPLIED_GRAPHS: &str = "ok 0
+no 2 19
+not run to its end
+ok 9
+facts 14
+ok 179
+digraph derivation {
+  node [shape=box];
+  1 [label=\"1. sub individual <x:a> <x:A> by K15 axiom 2\"];
+  2 [label=\"2. sub individual <x:a> <x:B> by K4 axiom 1 from 1\"];
+  1 -> 2;
+}
+ok 207
+digraph refutation {
+  node [shape=ellipse];
+  0 [label=\"0\\n<x:A>\\n<x:B>\\nindividual <x:a>\"];
+  1 [label=\"1\\nindividual <x:b>\", peripheries=2];
+  2 [label=\"2\\nindividual <x:c>\"];
+  1 -> 2 [label=\"<x:r>\"];
+}
+ok 178
+digraph refutation {
+  node [shape=ellipse];
+  label=\"others 1\";
+  1 [label=\"1\\nindividual <x:b>\", peripheries=2];
+  2 [label=\"2\\nindividual <x:c>\"];
+  1 -> 2 [label=\"<x:r>\"];
+}
+no 2 19
+unknown name <x:A>
+no 2 16
+unknown command
+no 2 16
+unknown command
+";
+
 #[test]
 fn commands_are_answered(rt: HostRuntime) -> Result<(), Fail> {
     let state = RandomState::new(&rt)?;
@@ -189,6 +239,21 @@ fn next_classes_are_told(rt: HostRuntime) -> Result<(), Fail> {
             state,
             ASKED_NEXT.as_bytes(),
             REPLIED_NEXT,
+            Ending::End
+        )
+    );
+    Ok(())
+}
+
+#[test]
+fn graphs_of_individuals_are_told(rt: HostRuntime) -> Result<(), Fail> {
+    let state = RandomState::new(&rt)?;
+    assert!(rt;
+        is_talk(
+            rt.alloc(),
+            state,
+            ASKED_GRAPHS.as_bytes(),
+            REPLIED_GRAPHS,
             Ending::End
         )
     );

@@ -4,21 +4,22 @@ mod judged;
 
 ghost use Rattle.engine.specs.Saturations.{IsUnasked};
 ghost use Rattle.answers.specs.Explanations.{Explains};
-ghost use Rattle.answers.specs.declared.asked.Asked.{Asked as Asked2};
+ghost use Rattle.program.specs.declared.question.Asked.{Asked as Asked2};
 ghost use Rattle.certificate.specs.Writability.{IsLineOf};
 ghost use Rattle.certificate.specs.View.{lines_of};
 ghost use Rattle.interpretation_spec.specs.NumberedInterpretation.{IsMadeFor};
-ghost use Rattle.std.specs.Prelude.{All, List, ℕ};
+ghost use Rattle.std.specs.Prelude.{All, IfOk, IfSome, List, ℕ};
 
 use crate::documents::saturated;
 use answer_texts::{proof_bytes, refutation_bytes};
-use answers::{Asked, Explanation, explained};
-use axioms::Ontology;
+use answers::{Answer, Explanation, ask};
+use axioms::{Memory, Ontology};
 use certificate::Line;
 use engine::Indexed;
 use interpretation_spec::Interpretation;
 use judged::is_right_of;
 use profile::{Version, read_bytes};
+use program::{Asked, Shown};
 use std::alloc::Global;
 use std::hash::RandomState;
 use std::test::Fail;
@@ -85,6 +86,12 @@ const EIGHT_APART: &str =
 /// X is in the last and in the second of nine classes that are apart, by way of the last.
 const NINE_APART: &str =
     "Prefix(:=<x:>) Ontology(SubClassOf(:X :I) SubClassOf(:I :B) DisjointClasses(:A :B :C :D :E :F :G :H :I))";
+
+/// As lines, all of them.
+const LINES: Shown = Shown {
+    graph: false,
+    reached: false,
+};
 
 /// Which explanation is wanted, by its text.
 #[derive(Clone, Copy)]
@@ -343,6 +350,22 @@ fn is_wanted(alloc: Global, ontology: &Ontology, found: &Explanation, wanted: Wa
     }
 }
 
+/// What explains the question, where the ontology has its names.
+fn explained(indexed: &Indexed<'_>, question: &Question) -> Result<Option<Explanation>, Memory>
+    requires { IsUnasked indexed.now.saturation }
+    ensures { IfOk result (λ answer. IfSome answer (Explains indexed.now.ontology question.now.asked question.now.class.now)) }
+{
+    match ask(
+        indexed,
+        program::Question::Why(question.asked, question.class, LINES),
+    ) {
+        Ok(Some(Answer::Why(found))) => Ok(Some(found)),
+        Ok(Some(Answer::Names(_) | Answer::Groups(_))) => unreachable!(),
+        Ok(None) => Ok(None),
+        Err(fault) => Err(fault),
+    }
+}
+
 /// Whether the question is explained as it is wanted.
 fn is_explained(indexed: &Indexed<'_>, question: &Question) -> bool
     requires { IsUnasked indexed.now.saturation }
@@ -350,7 +373,7 @@ fn is_explained(indexed: &Indexed<'_>, question: &Question) -> bool
     let closed = indexed.closed();
     let ontology = closed.ontology();
     let alloc = closed.allocator();
-    match explained(indexed, question.asked, question.class) {
+    match explained(indexed, question) {
         Ok(Some(found)) => is_wanted(alloc, ontology, &found, question.wanted),
         Ok(None) => matches!(question.wanted, Wanted::Unknown),
         Err(_) => false,
@@ -364,7 +387,7 @@ fn is_found_right(indexed: &Indexed<'_>, question: &Question) -> bool
     let closed = indexed.closed();
     let ontology = closed.ontology();
     let alloc = closed.allocator();
-    match explained(indexed, question.asked, question.class) {
+    match explained(indexed, question) {
         Ok(Some(found)) => is_right_of(alloc, ontology, found, question.asked, question.class),
         Ok(None) => matches!(question.wanted, Wanted::Unknown),
         Err(_) => false,

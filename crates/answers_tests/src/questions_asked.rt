@@ -1,7 +1,7 @@
 //! Questions about documents worked out by hand, and the texts that answer them.
 
 use device::SliceSource;
-use session::{Asked, Form, Limits, QuestionFault, Version, explanation_text, instances_text};
+use session::{Asked, Limits, Question, QuestionFault, Related, Shown, Version, question_text};
 use std::alloc::Global;
 use std::hash::RandomState;
 use std::test::Fail;
@@ -36,103 +36,258 @@ fn is_wanted(answer: &Result<Vec<u8>, QuestionFault<'_>>, wanted: &Wanted) -> bo
     }
 }
 
-/// A question after the individuals of a class, within so many facts, of a document of the version, and what is expected.
-struct Members {
+/// As lines, all of them.
+const LINES: Shown = Shown {
+    graph: false,
+    reached: false,
+};
+
+/// As a graph, of all.
+const GRAPH: Shown = Shown {
+    graph: true,
+    reached: false,
+};
+
+/// As lines, of what is reached.
+const REACHED: Shown = Shown {
+    graph: false,
+    reached: true,
+};
+
+/// As a graph, of what is reached.
+const REACHED_GRAPH: Shown = Shown {
+    graph: true,
+    reached: true,
+};
+
+/// A question, within so many facts, about a document of the version, and what is expected.
+struct Row {
     case: &'static str,
     document: &'static str,
-    class: &'static str,
+    question: Question<'static>,
     facts: u64,
     version: Version,
     wanted: Wanted,
 }
 
-const MEMBERS: &[Members] = &[
-    Members {
+const MEMBERS: &[Row] = &[
+    Row {
         case: "one individual",
         document: INDIVIDUALS,
-        class: "x:B",
+        question: Question::Names(Related::Instances, "x:B"),
         facts: 17,
         version: Version::Two,
         wanted: Wanted::Text("<x:a>\n"),
     },
-    Members {
+    Row {
         case: "all individuals in byte order",
         document: INDIVIDUALS,
-        class: "http://www.w3.org/2002/07/owl#Thing",
+        question: Question::Names(Related::Instances, "http://www.w3.org/2002/07/owl#Thing"),
         facts: 17,
         version: Version::Two,
         wanted: Wanted::Text("<x:a>\n<x:b>\n<x:c>\n"),
     },
-    Members {
+    Row {
         case: "none",
         document: SUBCLASS,
-        class: "x:B",
+        question: Question::Names(Related::Instances, "x:B"),
         facts: 17,
         version: Version::Two,
         wanted: Wanted::Text(""),
     },
-    Members {
+    Row {
         case: "an individual is no class",
         document: INDIVIDUALS,
-        class: "x:a",
+        question: Question::Names(Related::Instances, "x:a"),
         facts: 17,
         version: Version::Two,
         wanted: Wanted::UnknownName("x:a"),
     },
-    Members {
+    Row {
         case: "more facts than the limit",
         document: INDIVIDUALS,
-        class: "x:B",
+        question: Question::Names(Related::Instances, "x:B"),
         facts: 16,
         version: Version::Two,
         wanted: Wanted::Limit,
     },
-    Members {
+    Row {
         case: "the limit is told before a name",
         document: INDIVIDUALS,
-        class: "x:Z",
+        question: Question::Names(Related::Instances, "x:Z"),
         facts: 16,
         version: Version::Two,
         wanted: Wanted::Limit,
     },
-    Members {
+    Row {
         case: "a name, where the limit is not passed",
         document: INDIVIDUALS,
-        class: "x:Z",
+        question: Question::Names(Related::Instances, "x:Z"),
         facts: 17,
         version: Version::Two,
         wanted: Wanted::UnknownName("x:Z"),
     },
-    Members {
+    Row {
         case: "two individuals that are one",
         document: SAME_INDIVIDUALS,
-        class: "x:B",
+        question: Question::Names(Related::Instances, "x:B"),
         facts: 13,
         version: Version::Two,
         wanted: Wanted::Text("<x:a>\n<x:b>\n"),
     },
-    Members {
+    Row {
         case: "a document of the second version in the first",
         document: SAME_INDIVIDUALS,
-        class: "x:B",
+        question: Question::Names(Related::Instances, "x:B"),
         facts: 13,
         version: Version::One,
         wanted: Wanted::Refused,
     },
-    Members {
+    Row {
         case: "no document",
         document: "Ontology(",
-        class: "x:B",
+        question: Question::Names(Related::Instances, "x:B"),
         facts: 17,
         version: Version::Two,
         wanted: Wanted::Refused,
     },
 ];
 
+const WHYS: &[Row] = &[
+    Row {
+        case: "it follows",
+        document: SUBCLASS,
+        question: Question::Why(Asked::Class("x:A"), "x:B", LINES),
+        facts: 100,
+        version: Version::Two,
+        wanted: Wanted::Text(
+            "yes\n1. sub <x:A> <x:A> by K1\n2. sub <x:A> <x:B> by K4 axiom 1 from 1\n",
+        ),
+    },
+    Row {
+        case: "it does not follow",
+        document: SUBCLASS,
+        question: Question::Why(Asked::Class("x:B"), "x:A", LINES),
+        facts: 100,
+        version: Version::Two,
+        wanted: Wanted::Text("no\ndomain 1\nclass <x:B> 0\nelement 0\n"),
+    },
+    Row {
+        case: "it does not follow, as a graph",
+        document: SUBCLASS,
+        question: Question::Why(Asked::Class("x:B"), "x:A", GRAPH),
+        facts: 100,
+        version: Version::Two,
+        wanted: Wanted::Text(
+            "digraph refutation {\n  node [shape=ellipse];\n  0 [label=\"0\\n<x:B>\", peripheries=2];\n}\n",
+        ),
+    },
+    Row {
+        case: "it does not follow, and all is reached",
+        document: SUBCLASS,
+        question: Question::Why(Asked::Class("x:B"), "x:A", REACHED),
+        facts: 100,
+        version: Version::Two,
+        wanted: Wanted::Text("no\ndomain 1\nclass <x:B> 0\nelement 0\nothers 0\n"),
+    },
+    Row {
+        case: "it does not follow, by one of four",
+        document: FOUR_INDIVIDUALS,
+        question: Question::Why(Asked::Individual("x:c"), "x:A", REACHED),
+        facts: 100,
+        version: Version::Two,
+        wanted: Wanted::Text("no\ndomain 4\nindividual <x:c> 2\nelement 2\nothers 3\n"),
+    },
+    Row {
+        case: "the same as a graph",
+        document: FOUR_INDIVIDUALS,
+        question: Question::Why(Asked::Individual("x:c"), "x:A", REACHED_GRAPH),
+        facts: 100,
+        version: Version::Two,
+        wanted: Wanted::Text(
+            "digraph refutation {\n  node [shape=ellipse];\n  label=\"others 3\";\n  2 [label=\"2\\nindividual <x:c>\", peripheries=2];\n}\n",
+        ),
+    },
+    Row {
+        case: "it follows, and all lines are told",
+        document: FOUR_INDIVIDUALS,
+        question: Question::Why(Asked::Individual("x:d"), "x:A", REACHED),
+        facts: 100,
+        version: Version::Two,
+        wanted: Wanted::Text("yes\n1. sub individual <x:d> <x:A> by K15 axiom 3\n"),
+    },
+    Row {
+        case: "an individual and a class of one name",
+        document: "Prefix(:=<x:>) Ontology(ClassAssertion(:A :A) SubClassOf(:B :C))",
+        question: Question::Why(Asked::Individual("x:A"), "x:A", LINES),
+        facts: 100,
+        version: Version::Two,
+        wanted: Wanted::Text("yes\n1. sub individual <x:A> <x:A> by K15 axiom 1\n"),
+    },
+    Row {
+        case: "an individual is in the class of what it is",
+        document: SAME_INDIVIDUALS,
+        question: Question::Why(Asked::Individual("x:b"), "x:A", LINES),
+        facts: 13,
+        version: Version::Two,
+        wanted: Wanted::Text(
+            "yes\n1. sub individual <x:a> <x:A> by K15 axiom 2\n2. same individual <x:b> individual <x:a> by K17 axiom 1\n3. sub individual <x:b> <x:A> by K19 from 2, 1\n",
+        ),
+    },
+    Row {
+        case: "a document of the second version in the first",
+        document: SAME_INDIVIDUALS,
+        question: Question::Why(Asked::Individual("x:b"), "x:A", LINES),
+        facts: 13,
+        version: Version::One,
+        wanted: Wanted::Refused,
+    },
+    Row {
+        case: "the subject is told before the class",
+        document: SUBCLASS,
+        question: Question::Why(Asked::Individual("x:A"), "x:Z", GRAPH),
+        facts: 100,
+        version: Version::Two,
+        wanted: Wanted::UnknownName("x:A"),
+    },
+    Row {
+        case: "the class is unknown",
+        document: SUBCLASS,
+        question: Question::Why(Asked::Class("x:A"), "x:Z", LINES),
+        facts: 100,
+        version: Version::Two,
+        wanted: Wanted::UnknownName("x:Z"),
+    },
+    Row {
+        case: "more facts than the limit",
+        document: SUBCLASS,
+        question: Question::Why(Asked::Class("x:A"), "x:B", LINES),
+        facts: 7,
+        version: Version::Two,
+        wanted: Wanted::Limit,
+    },
+    Row {
+        case: "the limit is told before a name",
+        document: SUBCLASS,
+        question: Question::Why(Asked::Individual("x:A"), "x:Z", GRAPH),
+        facts: 7,
+        version: Version::Two,
+        wanted: Wanted::Limit,
+    },
+    Row {
+        case: "a name, where the limit is not passed",
+        document: SUBCLASS,
+        question: Question::Why(Asked::Individual("x:A"), "x:Z", GRAPH),
+        facts: 8,
+        version: Version::Two,
+        wanted: Wanted::UnknownName("x:A"),
+    },
+];
+
 /// Whether the question is answered as is expected.
-fn lists(alloc: Global, state: RandomState, limits: &Limits, row: &Members) -> bool {
+fn answers(alloc: Global, state: RandomState, limits: &Limits, row: &Row) -> bool {
     let mut source = SliceSource::new(row.document.as_bytes());
-    let answer = instances_text(alloc, &mut source, row.class, limits, state);
+    let answer = question_text(alloc, &mut source, row.question, limits, state);
     is_wanted(&answer, &row.wanted)
 }
 
@@ -141,197 +296,9 @@ fn individuals_of_a_class(rt: HostRuntime) -> Result<(), Fail> {
     let state = RandomState::new(&rt)?;
     for row in MEMBERS {
         let limits = Limits::new(1000, row.facts, row.version).ok_or("limits")?;
-        assert!(rt; lists(rt.alloc(), state, &limits, row), "{}", row.case);
+        assert!(rt; answers(rt.alloc(), state, &limits, row), "{}", row.case);
     }
     Ok(())
-}
-
-/// A question why, within so many facts, of a document of the version, and what is expected.
-struct Why {
-    case: &'static str,
-    document: &'static str,
-    asked: Asked<'static>,
-    class: &'static str,
-    form: Form,
-    facts: u64,
-    version: Version,
-    wanted: Wanted,
-}
-
-const WHYS: &[Why] = &[
-    Why {
-        case: "it follows",
-        document: SUBCLASS,
-        asked: Asked::Class("x:A"),
-        class: "x:B",
-        form: Form::Lines,
-        facts: 100,
-        version: Version::Two,
-        wanted: Wanted::Text(
-            "yes\n1. sub <x:A> <x:A> by K1\n2. sub <x:A> <x:B> by K4 axiom 1 from 1\n",
-        ),
-    },
-    Why {
-        case: "it does not follow",
-        document: SUBCLASS,
-        asked: Asked::Class("x:B"),
-        class: "x:A",
-        form: Form::Lines,
-        facts: 100,
-        version: Version::Two,
-        wanted: Wanted::Text("no\ndomain 1\nclass <x:B> 0\nelement 0\n"),
-    },
-    Why {
-        case: "it does not follow, as a graph",
-        document: SUBCLASS,
-        asked: Asked::Class("x:B"),
-        class: "x:A",
-        form: Form::Graph,
-        facts: 100,
-        version: Version::Two,
-        wanted: Wanted::Text(
-            "digraph refutation {\n  node [shape=ellipse];\n  0 [label=\"0\\n<x:B>\", peripheries=2];\n}\n",
-        ),
-    },
-    Why {
-        case: "it does not follow, and all is reached",
-        document: SUBCLASS,
-        asked: Asked::Class("x:B"),
-        class: "x:A",
-        form: Form::Reached,
-        facts: 100,
-        version: Version::Two,
-        wanted: Wanted::Text("no\ndomain 1\nclass <x:B> 0\nelement 0\nothers 0\n"),
-    },
-    Why {
-        case: "it does not follow, by one of four",
-        document: FOUR_INDIVIDUALS,
-        asked: Asked::Individual("x:c"),
-        class: "x:A",
-        form: Form::Reached,
-        facts: 100,
-        version: Version::Two,
-        wanted: Wanted::Text("no\ndomain 4\nindividual <x:c> 2\nelement 2\nothers 3\n"),
-    },
-    Why {
-        case: "the same as a graph",
-        document: FOUR_INDIVIDUALS,
-        asked: Asked::Individual("x:c"),
-        class: "x:A",
-        form: Form::ReachedGraph,
-        facts: 100,
-        version: Version::Two,
-        wanted: Wanted::Text(
-            "digraph refutation {\n  node [shape=ellipse];\n  label=\"others 3\";\n  2 [label=\"2\\nindividual <x:c>\", peripheries=2];\n}\n",
-        ),
-    },
-    Why {
-        case: "it follows, and all lines are told",
-        document: FOUR_INDIVIDUALS,
-        asked: Asked::Individual("x:d"),
-        class: "x:A",
-        form: Form::Reached,
-        facts: 100,
-        version: Version::Two,
-        wanted: Wanted::Text("yes\n1. sub individual <x:d> <x:A> by K15 axiom 3\n"),
-    },
-    Why {
-        case: "an individual and a class of one name",
-        document: "Prefix(:=<x:>) Ontology(ClassAssertion(:A :A) SubClassOf(:B :C))",
-        asked: Asked::Individual("x:A"),
-        class: "x:A",
-        form: Form::Lines,
-        facts: 100,
-        version: Version::Two,
-        wanted: Wanted::Text("yes\n1. sub individual <x:A> <x:A> by K15 axiom 1\n"),
-    },
-    Why {
-        case: "an individual is in the class of what it is",
-        document: SAME_INDIVIDUALS,
-        asked: Asked::Individual("x:b"),
-        class: "x:A",
-        form: Form::Lines,
-        facts: 13,
-        version: Version::Two,
-        wanted: Wanted::Text(
-            "yes\n1. sub individual <x:a> <x:A> by K15 axiom 2\n2. same individual <x:b> individual <x:a> by K17 axiom 1\n3. sub individual <x:b> <x:A> by K19 from 2, 1\n",
-        ),
-    },
-    Why {
-        case: "a document of the second version in the first",
-        document: SAME_INDIVIDUALS,
-        asked: Asked::Individual("x:b"),
-        class: "x:A",
-        form: Form::Lines,
-        facts: 13,
-        version: Version::One,
-        wanted: Wanted::Refused,
-    },
-    Why {
-        case: "the subject is told before the class",
-        document: SUBCLASS,
-        asked: Asked::Individual("x:A"),
-        class: "x:Z",
-        form: Form::Graph,
-        facts: 100,
-        version: Version::Two,
-        wanted: Wanted::UnknownName("x:A"),
-    },
-    Why {
-        case: "the class is unknown",
-        document: SUBCLASS,
-        asked: Asked::Class("x:A"),
-        class: "x:Z",
-        form: Form::Lines,
-        facts: 100,
-        version: Version::Two,
-        wanted: Wanted::UnknownName("x:Z"),
-    },
-    Why {
-        case: "more facts than the limit",
-        document: SUBCLASS,
-        asked: Asked::Class("x:A"),
-        class: "x:B",
-        form: Form::Lines,
-        facts: 7,
-        version: Version::Two,
-        wanted: Wanted::Limit,
-    },
-    Why {
-        case: "the limit is told before a name",
-        document: SUBCLASS,
-        asked: Asked::Individual("x:A"),
-        class: "x:Z",
-        form: Form::Graph,
-        facts: 7,
-        version: Version::Two,
-        wanted: Wanted::Limit,
-    },
-    Why {
-        case: "a name, where the limit is not passed",
-        document: SUBCLASS,
-        asked: Asked::Individual("x:A"),
-        class: "x:Z",
-        form: Form::Graph,
-        facts: 8,
-        version: Version::Two,
-        wanted: Wanted::UnknownName("x:A"),
-    },
-];
-
-/// Whether the question is answered as is expected.
-fn explains(alloc: Global, state: RandomState, limits: &Limits, row: &Why) -> bool {
-    let mut source = SliceSource::new(row.document.as_bytes());
-    let answer = explanation_text(
-        alloc,
-        &mut source,
-        row.asked,
-        row.class,
-        row.form,
-        limits,
-        state,
-    );
-    is_wanted(&answer, &row.wanted)
 }
 
 #[test]
@@ -339,7 +306,7 @@ fn reasons(rt: HostRuntime) -> Result<(), Fail> {
     let state = RandomState::new(&rt)?;
     for row in WHYS {
         let limits = Limits::new(1000, row.facts, row.version).ok_or("limits")?;
-        assert!(rt; explains(rt.alloc(), state, &limits, row), "{}", row.case);
+        assert!(rt; answers(rt.alloc(), state, &limits, row), "{}", row.case);
     }
     Ok(())
 }

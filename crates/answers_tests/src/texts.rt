@@ -10,8 +10,7 @@ ghost use Rattle.std.specs.Prelude.{[], ◌∷◌, ◌++◌, ◌≡◌, IfOk, No
 use crate::documents::{listed_in, ontology_of};
 use answer_texts::{
     proof_bytes, proof_graph_bytes, reached_refutation_bytes, reached_refutation_graph_bytes,
-    refutation_bytes, refutation_graph_bytes, write_proof, write_proof_graph, write_refutation,
-    write_refutation_graph,
+    refutation_bytes, refutation_graph_bytes, write_proof,
 };
 use axioms::{ExprId, Memory, Ontology};
 use certificate::{Certificate, Conclusion, Format, Line, Rule, Subject, read_certificate};
@@ -108,7 +107,7 @@ fn are_two_lines(alloc: Global, lines: &[Line]) -> Result<bool, Memory> {
     Ok(lines.len() == 2 && lines[0] == first && lines[1] == second)
 }
 
-/// The text and the graph of the certificate's lines, in memory and through a sink.
+/// The text of the certificate's lines, in memory and through a sink, and their graph.
 fn are_texts(
     alloc: Global,
     ontology: &Ontology,
@@ -121,13 +120,10 @@ fn are_texts(
     let lines = certificate.lines();
     let mut texts = BufferSink::new(alloc);
     write_proof(alloc, ontology, lines, &mut texts)?;
-    let mut graphs = BufferSink::new(alloc);
-    write_proof_graph(alloc, ontology, lines, &mut graphs)?;
     let text_in_memory = proof_bytes(alloc, ontology, lines)?;
     let graph_in_memory = proof_graph_bytes(alloc, ontology, lines)?;
     Ok(
         texts.bytes() == text
-            && graphs.bytes() == graph
             && text_in_memory.as_slice() == text
             && graph_in_memory.as_slice() == graph,
     )
@@ -189,7 +185,7 @@ fn what_is_left_is_written(rt: HostRuntime) -> Result<(), Fail> {
     Ok(())
 }
 
-/// The text and the graph, in memory and through a sink.
+/// The text and the graph.
 fn is_written(
     alloc: Global,
     ontology: &Ontology,
@@ -199,18 +195,9 @@ fn is_written(
 ) -> Result<bool, Fail>
     requires { IsMadeFor ontology.now.names interpretation.now }
 {
-    let mut texts = BufferSink::new(alloc);
-    write_refutation(alloc, ontology, interpretation, 0, &mut texts)?;
-    let mut graphs = BufferSink::new(alloc);
-    write_refutation_graph(alloc, ontology, interpretation, 0, &mut graphs)?;
-    let text_in_memory = refutation_bytes(alloc, ontology, interpretation, 0)?;
-    let graph_in_memory = refutation_graph_bytes(alloc, ontology, interpretation, 0)?;
-    Ok(
-        texts.bytes() == text
-            && graphs.bytes() == graph
-            && text_in_memory.as_slice() == text
-            && graph_in_memory.as_slice() == graph,
-    )
+    let written = refutation_bytes(alloc, ontology, interpretation, 0)?;
+    let drawn = refutation_graph_bytes(alloc, ontology, interpretation, 0)?;
+    Ok(written.as_slice() == text && drawn.as_slice() == graph)
 }
 
 /// Whether the interpretation that the certificate lists is written so.

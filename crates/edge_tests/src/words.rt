@@ -1,7 +1,7 @@
 //! Command lines and their tasks.
 
-use command_line::{Command, Conversion, FormatNumber, LineFault, Paths, Question, Task, task};
-use program::{Limits, Version};
+use command_line::{Command, Conversion, FormatNumber, LineFault, Paths, Task, task};
+use program::{Asked, Limits, MOST_BYTES, MOST_FACTS, Question, Related, Shown, Side, Version};
 use std::alloc::{AllocError, Global};
 use std::test::Fail;
 
@@ -15,14 +15,25 @@ const PATHS: Paths<'static> = Paths {
 /// An expression, which is one word.
 const EXPRESSION: &str = "ObjectSomeValuesFrom(:r :A)";
 
-/// The question of a class, whose answer is wanted as a text.
-const QUESTION: Question<'static> = Question {
-    document: "a.ofn",
-    subject: "x:A",
-    class: "x:B",
-    individual: false,
-    dot: false,
+/// How an explanation is shown where no flag says otherwise.
+const LINES: Shown = Shown {
+    graph: false,
     reached: false,
+};
+
+const GRAPH: Shown = Shown {
+    graph: true,
+    reached: false,
+};
+
+const REACHED: Shown = Shown {
+    graph: false,
+    reached: true,
+};
+
+const GRAPH_REACHED: Shown = Shown {
+    graph: true,
+    reached: true,
 };
 
 /// Words, and the command and the limits that they give, with the version.
@@ -35,7 +46,8 @@ struct Row {
     version: Version,
 }
 
-/// Each command with and without its options and flags. A check and a conversion draw no facts, and have the greatest number of them.
+/// Commands with their options, and without them where they ask no question (`QUESTIONS` has the others). A check and a conversion draw no
+/// facts, and have the greatest number of them.
 const ROWS: &[Row] = &[
     Row {
         case: "classify",
@@ -149,17 +161,6 @@ const ROWS: &[Row] = &[
         version: Version::One,
     },
     Row {
-        case: "instances",
-        words: &["elc", "instances", "a.ofn", "x:A"],
-        command: Command::Instances {
-            document: "a.ofn",
-            class: "x:A",
-        },
-        max_facts: 100_000_000,
-        max_bytes: 268_435_456,
-        version: Version::Two,
-    },
-    Row {
         case: "instances with all options",
         words: &[
             "elc",
@@ -172,9 +173,9 @@ const ROWS: &[Row] = &[
             "--max-facts",
             "9",
         ],
-        command: Command::Instances {
+        command: Command::Ask {
             document: "a.ofn",
-            class: "x:A",
+            question: Question::Names(Related::Instances, "x:A"),
         },
         max_facts: 9,
         max_bytes: 1000,
@@ -212,69 +213,6 @@ const ROWS: &[Row] = &[
         version: Version::One,
     },
     Row {
-        case: "explain",
-        words: &["elc", "explain", "a.ofn", "x:A", "x:B"],
-        command: Command::Explain(QUESTION),
-        max_facts: 100_000_000,
-        max_bytes: 268_435_456,
-        version: Version::Two,
-    },
-    Row {
-        case: "explain of an individual",
-        words: &["elc", "explain", "--individual", "a.ofn", "x:A", "x:B"],
-        command: Command::Explain(Question {
-            individual: true,
-            ..QUESTION
-        }),
-        max_facts: 100_000_000,
-        max_bytes: 268_435_456,
-        version: Version::Two,
-    },
-    Row {
-        case: "explain by a graph",
-        words: &["elc", "explain", "a.ofn", "x:A", "--dot", "x:B"],
-        command: Command::Explain(Question {
-            dot: true,
-            ..QUESTION
-        }),
-        max_facts: 100_000_000,
-        max_bytes: 268_435_456,
-        version: Version::Two,
-    },
-    Row {
-        case: "explain by what is reached",
-        words: &["elc", "explain", "a.ofn", "--reached", "x:A", "x:B"],
-        command: Command::Explain(Question {
-            reached: true,
-            ..QUESTION
-        }),
-        max_facts: 100_000_000,
-        max_bytes: 268_435_456,
-        version: Version::Two,
-    },
-    Row {
-        case: "explain with all flags",
-        words: &[
-            "elc",
-            "explain",
-            "a.ofn",
-            "x:A",
-            "x:B",
-            "--dot",
-            "--reached",
-            "--individual",
-        ],
-        command: Command::Explain(Question {
-            individual: true,
-            dot: true,
-            reached: true,
-            ..QUESTION
-        }),
-        max_facts: 100_000_000,
-        max_bytes: 268_435_456,
-        version: Version::Two,
-    },
-    Row {
         case: "explain with all options",
         words: &[
             "elc",
@@ -288,7 +226,10 @@ const ROWS: &[Row] = &[
             "--profile",
             "1",
         ],
-        command: Command::Explain(QUESTION),
+        command: Command::Ask {
+            document: "a.ofn",
+            question: Question::Why(Asked::Class("x:A"), "x:B", LINES),
+        },
         max_facts: 9,
         max_bytes: 1000,
         version: Version::One,
@@ -321,6 +262,92 @@ fn commands_with_and_without_options(rt: HostRuntime) {
     for row in ROWS {
         assert!(rt; is_taken(rt.alloc(), row), "{}", row.case);
     }
+}
+
+/// Lines without options that ask, each with its question.
+const QUESTIONS: &[(&str, Question<'static>)] = &[
+    (
+        "elc supers a.ofn x:A",
+        Question::Names(Related::Superclasses, "x:A"),
+    ),
+    (
+        "elc subs a.ofn x:A",
+        Question::Names(Related::Subclasses, "x:A"),
+    ),
+    (
+        "elc equivalents a.ofn x:A",
+        Question::Names(Related::Equivalents, "x:A"),
+    ),
+    (
+        "elc instances a.ofn x:A",
+        Question::Names(Related::Instances, "x:A"),
+    ),
+    (
+        "elc parents a.ofn x:A",
+        Question::Groups(Side::Above, "x:A"),
+    ),
+    (
+        "elc children a.ofn x:A",
+        Question::Groups(Side::Below, "x:A"),
+    ),
+    (
+        "elc explain a.ofn x:A x:B",
+        Question::Why(Asked::Class("x:A"), "x:B", LINES),
+    ),
+    (
+        "elc explain a.ofn x:A --dot x:B",
+        Question::Why(Asked::Class("x:A"), "x:B", GRAPH),
+    ),
+    (
+        "elc explain a.ofn --reached x:A x:B",
+        Question::Why(Asked::Class("x:A"), "x:B", REACHED),
+    ),
+    (
+        "elc explain a.ofn x:A x:B --reached --dot",
+        Question::Why(Asked::Class("x:A"), "x:B", GRAPH_REACHED),
+    ),
+    (
+        "elc explain --individual a.ofn x:A x:B",
+        Question::Why(Asked::Individual("x:A"), "x:B", LINES),
+    ),
+    (
+        "elc explain a.ofn x:A x:B --individual --dot",
+        Question::Why(Asked::Individual("x:A"), "x:B", GRAPH),
+    ),
+    (
+        "elc explain --reached a.ofn x:A x:B --individual",
+        Question::Why(Asked::Individual("x:A"), "x:B", REACHED),
+    ),
+    (
+        "elc explain a.ofn x:A x:B --dot --reached --individual",
+        Question::Why(Asked::Individual("x:A"), "x:B", GRAPH_REACHED),
+    ),
+];
+
+/// Whether the line asks this of the document, within the greatest limits and without progress.
+fn asks(alloc: Global, line: &str, question: Question<'_>) -> Result<bool, AllocError> {
+    let words: Vec<&str> = line.split(' ').collect(alloc)?;
+    let Some(limits) = Limits::new(MOST_BYTES, MOST_FACTS, Version::Two) else {
+        return Ok(false);
+    };
+    let wanted = Task {
+        command: Command::Ask {
+            document: "a.ofn",
+            question,
+        },
+        limits,
+        progress: false,
+    };
+    Ok(taken(alloc, &words) == Some(wanted))
+}
+
+#[test]
+fn commands_that_ask(rt: HostRuntime) -> Result<(), Fail> {
+    for row in QUESTIONS {
+        let (line, question) = *row;
+        assert!(rt; asks(rt.alloc(), line, question)?, "{line}");
+    }
+    Ok(())
 }
 
 /// Whether the words are refused as a line.
@@ -390,6 +417,19 @@ const REFUSED: &[&str] = &[
     "elc instances a b --max-bytes 268435457",
     "elc instances a b --profile 3",
     "elc instances a b --format 2",
+    "elc supers a",
+    "elc supers a b c",
+    "elc supers --help",
+    "elc superclasses a b",
+    "elc subs a",
+    "elc subs a b --max-facts 100000001",
+    "elc equivalents a",
+    "elc equivalents a b --individual",
+    "elc parents a",
+    "elc parents a b --progress",
+    "elc children a",
+    "elc children a b c",
+    "elc children a b --reached",
     "elc explain a b",
     "elc explain a b --individual",
     "elc explain a b c d",
@@ -425,6 +465,7 @@ const TAKEN: &[&str] = &[
     "elc classify a b c d --max-facts 100000000 --max-bytes 268435456",
     "elc check a b c d --max-bytes 1",
     "elc instances a b --max-facts 100000000 --max-bytes 1",
+    "elc parents a b --max-facts 1 --max-bytes 268435456 --profile 1",
     "elc explain a b c --max-facts 1 --max-bytes 268435456",
     "elc query a b --max-facts 1 --max-bytes 268435456",
     "elc query a b --max-facts 100000000 --max-bytes 1",
@@ -455,6 +496,7 @@ const EXAMPLES: &[&str] = &[
     "elc check food.ofn food.tax food.inst food.cert",
     "elc convert food.ofn food.cert food1.cert --format 1",
     "elc instances food.ofn http://example.org/Pizza",
+    "elc parents food.ofn http://example.org/Pizza",
     "elc explain food.ofn http://example.org/Pizza http://example.org/Food",
     "elc explain food.ofn http://example.org/margherita http://example.org/Pizza --individual",
 ];
@@ -499,7 +541,12 @@ fn help_has_examples_that_are_taken(rt: HostRuntime) -> Result<(), Fail> {
 const TOLD: &[(&str, &str)] = &[
     ("elc", "Usage: elc <COMMAND>"),
     ("elc clasify a b c d", "unrecognized subcommand 'clasify'"),
+    (
+        "elc superclasses a b",
+        "unrecognized subcommand 'superclasses'",
+    ),
     ("elc check a b c", "<CERT>"),
+    ("elc children a", "<CLASS>"),
     ("elc query a", "<EXPRESSION>"),
     ("elc classify a b c d e", "unexpected argument 'e'"),
     ("elc classify a b c d --max-facts 0", "'0' for '--max-facts"),

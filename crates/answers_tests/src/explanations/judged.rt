@@ -2,15 +2,16 @@
 //! and by what is in the two classes.
 ghost use Rattle.interpretation_spec.specs.NumberedInterpretation.{IsMadeFor};
 ghost use Rattle.answers.specs.Explanations.{Explains};
-ghost use Rattle.answers.specs.declared.asked.Asked.{Asked as Asked2};
+ghost use Rattle.program.specs.declared.question.Asked.{Asked as Asked2};
 ghost use Rattle.std.specs.Prelude.{List, ℕ};
 
-use answers::{Asked, Explanation};
+use answers::Explanation;
 use axioms::{ClassId, IndId, Memory, Ontology};
 use cert_check::{Reason, Verdict, check};
 use certificate::{Certificate, Format, Line};
 use certificate_text::certificate_bytes;
 use interpretation_spec::Interpretation;
+use program::Asked;
 use std::alloc::Global;
 
 /// What the checker says of the lines as a certificate of a contradiction: only that there is none, where they are right and end in no

@@ -1,5 +1,7 @@
 //! Runs that answer a question about a document, where no file can be written.
 
+mod related;
+
 use super::*;
 
 const SUBCLASS: &str = "Prefix(:=<x:>) Ontology(SubClassOf(:A :B))";
@@ -203,6 +205,36 @@ const REASONS: &[Row] = &[
         words: &["elc", "explain", "doc", "x:a", "x:A", "--individual"],
         status: 0,
         text: "yes\n1. sub individual <x:a> <x:A> by K15 axiom 2\n",
+    },
+    Row {
+        case: "an individual, as a graph",
+        document: INDIVIDUALS,
+        words: &[
+            "elc",
+            "explain",
+            "doc",
+            "x:a",
+            "x:A",
+            "--individual",
+            "--dot",
+        ],
+        status: 0,
+        text: "digraph derivation {\n  node [shape=box];\n  1 [label=\"1. sub individual <x:a> <x:A> by K15 axiom 2\"];\n}\n",
+    },
+    Row {
+        case: "an individual is not in the class, as a graph",
+        document: FOUR_INDIVIDUALS,
+        words: &[
+            "elc",
+            "explain",
+            "--dot",
+            "--individual",
+            "doc",
+            "x:b",
+            "x:A",
+        ],
+        status: 0,
+        text: "digraph refutation {\n  node [shape=ellipse];\n  0 [label=\"0\\nindividual <x:a>\"];\n  1 [label=\"1\\nindividual <x:b>\", peripheries=2];\n  2 [label=\"2\\nindividual <x:c>\"];\n  3 [label=\"3\\n<x:A>\\nindividual <x:d>\"];\n  0 -> 1 [label=\"<x:r>\"];\n  1 -> 2 [label=\"<x:s>\"];\n}\n",
     },
     Row {
         case: "an individual that is another",

@@ -9,4 +9,4 @@ is_wanted-requires c =
     let asked = c.args.question.now.asked in
     let class = c.args.question.now.class.now in
     let same = c.ontology-ontology.ensures ∙ ap (λ (k : Closed). k.ontology) c.closed-closed.ensures in
-    (asked, class, subst (λ (o : Ontology). Explains o asked class c.in-Ok-Some.found) (sym same) (rw (c.in-Ok-Some.field-0-is) at c.in-Ok-Some.ensures.explains))
+    (asked, class, subst (λ (o : Ontology). Explains o asked class c.in-Ok-Some.found) (sym same) (rw (c.in-Ok-Some.field-0-is) at c.in-Ok-Some.ensures))

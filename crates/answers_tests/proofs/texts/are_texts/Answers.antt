@@ -6,9 +6,6 @@ use Rattle.answers_tests.proofs.texts.are_texts.Goals as goal
 pub write_proof-requires : goal.write_proof-requires
 write_proof-requires c = subst (λ (ls : List Line). All (IsLineOf c.args.ontology.now) ls) (sym c.lines-lines.ensures) c.requires.lines
 
-pub write_proof_graph-requires : goal.write_proof_graph-requires
-write_proof_graph-requires c = subst (λ (ls : List Line). All (IsLineOf c.args.ontology.now) ls) (sym c.lines-lines.ensures) c.requires.lines
-
 pub proof_bytes-requires : goal.proof_bytes-requires
 proof_bytes-requires c = subst (λ (ls : List Line). All (IsLineOf c.args.ontology.now) ls) (sym c.lines-lines.ensures) c.requires.lines
 
