@@ -122,6 +122,10 @@ class Session(contextlib.AbstractContextManager):
         """The same as `why`, as a graph for Graphviz."""
         return self.command(f"dot {below} {above}" + " reached" * reached)
 
+    def dot_individual(self, individual, iri, reached=False):
+        """The same as `why_individual`, as a graph for Graphviz."""
+        return self.command(f"dot-individual {individual} {iri}" + " reached" * reached)
+
     def query(self, expression):
         """The classes above and below a class expression and its individuals, as lines of `elc query`."""
         return self.command("query", expression)
