@@ -18,7 +18,9 @@ use Rattle.profile.specs.declared.opened.Opened.{Opened}
 use Rattle.profile.specs.declared.fault.DocumentFault.TheVariants as faults
 use Rattle.profile.specs.Documents.{AreTextOf, OpensAs, ReadsAs}
 use Rattle.profile.specs.Reading.{AreReadAs}
-use Rattle.profile.specs.Faults.{AreNoDocument, OpensKnown, ReadsKnown, Refuses, RefusesKnown, of_parsing}
+use Rattle.fs_lexer.specs.declared.token.LexFault.{LexFault}
+use Rattle.fs_lexer.specs.declared.token.LexFault.TheVariants as lexing
+use Rattle.profile.specs.Faults.{AreNoDocument, IsOfForms, OpensKnown, ReadsKnown, Refuses, RefusesKnown, of_lexing, of_parsing}
 use Rattle.profile.proofs.Bounds.{axioms_take_bytes}
 
 module _ (text : List ℕ) (tokens : List Token) (utf8 : IsUtf8 text) (spelled : Spells text tokens) where
@@ -36,6 +38,23 @@ module _ (text : List ℕ) (tokens : List Token) (utf8 : IsUtf8 text) (spelled :
   parse_fault version (parsing.StandardPrefixChanged at) none placed = no_document (parsing.StandardPrefixChanged at) tt none placed
   parse_fault version (parsing.TooDeep at) none placed = no_document (parsing.TooDeep at) tt none placed
   parse_fault version parsing.Memory none placed = tt
+
+-- faults of tokens, and of what they make
+pub of_tokens : (f : LexFault) → IsOfForms (of_lexing f)
+of_tokens (lexing.BadByte at) = tt
+of_tokens (lexing.OpenString at) = tt
+of_tokens (lexing.OpenIri at) = tt
+of_tokens (lexing.WordsTouch at) = tt
+of_tokens lexing.Memory = tt
+
+pub of_forms : (f : ParseFault) → IsOfForms (of_parsing f)
+of_forms (parsing.Unexpected at) = tt
+of_forms (parsing.UnexpectedEnd at) = tt
+of_forms (parsing.UnknownPrefix at) = tt
+of_forms (parsing.PrefixTwice at) = tt
+of_forms (parsing.StandardPrefixChanged at) = tt
+of_forms (parsing.TooDeep at) = tt
+of_forms parsing.Memory = tt
 
 -- a document that was read from its trees
 pub listed_opens : (version : Version) (text : List ℕ) (document : Document) → AreTextOf text document → (o : Ontology) → AreReadAs version document.trees o → IsOntology o

@@ -84,6 +84,13 @@ Refuses version Memory bytes = Unit {0}
 Refuses version TooLarge bytes = ⊥
 Refuses version Io bytes = ⊥
 
+-- the fault is of the tokens or of the forms that they make, or memory was refused
+abbrev pub IsOfForms : DocumentFault → Type 0
+IsOfForms (Lex fault) = Unit {0}
+IsOfForms (Parse fault) = Unit {0}
+IsOfForms Memory = Unit {0}
+IsOfForms fault = ⊥
+
 -- what an answer says of the bytes of a source that tells them, where at most so many are allowed
 abbrev pub ReadsKnown : Version → Option (List ℕ) → ℕ → Ontology → Type 0
 ReadsKnown version None most o = Unit {0}

@@ -1,7 +1,7 @@
 //! From bytes to an ontology.
 ghost use Rattle.device.specs.Device.{HasFailed, LosesFront};
 ghost use Rattle.profile.specs.Documents.{AreTextOf, IsTaken, OpensAs, ReadsAs};
-ghost use Rattle.profile.specs.Faults.{IsReadWhole, OpensKnown, ReadsKnown, Refuses, RefusesKnown};
+ghost use Rattle.profile.specs.Faults.{IsOfForms, IsReadWhole, OpensKnown, ReadsKnown, Refuses, RefusesKnown};
 ghost use Rattle.std.specs.Io.KnownBytes.{IsAtEnd};
 ghost use Rattle.fs_parser.specs.View.{document_of};
 ghost use Rattle.std.specs.Prelude.{◌≡◌, ◌+◌, ◌<◌, ◌≤◌, IfErr, IfOk, IsErrOf, OnOk, length};
@@ -20,9 +20,14 @@ use std::hash::RandomState;
 use std::str;
 
 /// The document that a text is, by the list of its tokens, which are gone when its trees are there.
-fn listed_document<'a>(alloc: Global, text: &'a str) -> Result<Document<'a>, DocumentFault>
+///
+/// # Errors
+///
+/// `Lex` or `Parse` where the text is no document; `Memory` where memory was refused.
+pub fn listed_document<'a>(alloc: Global, text: &'a str) -> Result<Document<'a>, DocumentFault>
     ensures written { IfOk result (λ d. AreTextOf text.now (document_of d)) }
     ensures refused { IfErr result (λ e. (version : Version) → Refuses version e text.now) }
+    ensures kind { IfErr result IsOfForms }
 {
     let tokens = match tokens(alloc, text) {
         Ok(tokens) => tokens,

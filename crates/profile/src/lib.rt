@@ -25,7 +25,7 @@ mod streamed;
 
 pub use acceptance::{Refusal, accept};
 pub use addition::{read_addition, read_expression};
-pub use document::{read_bytes, read_document, read_opened};
+pub use document::{listed_document, read_bytes, read_document, read_opened};
 pub use fault::DocumentFault;
 pub use growth::{accept_expression, accept_statements};
 pub use ontology_reader::OntologyReader;
