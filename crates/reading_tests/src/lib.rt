@@ -22,6 +22,8 @@ mod parser;
 #[cfg(test)]
 mod parts;
 #[cfg(test)]
+mod restrictions;
+#[cfg(test)]
 mod sources;
 #[cfg(test)]
 mod stream;

@@ -21,7 +21,7 @@ letters_small (b ∷ bs) h = λ i. elim i as (λ i. slice_index (b ∷ bs) i < 1
   | suc j ↦ letters_small bs (and_parts (is_ascii_alphabetic b) (list_all is_ascii_alphabetic bs) h).1 j
 ]
 
-abbrev is_small : ℕ → Bool
+abbrev pub is_small : ℕ → Bool
 is_small b = nat_lt b 128
 
 all_small : (bs : List ℕ) → list_all is_small bs ≡ true → IsAscii bs

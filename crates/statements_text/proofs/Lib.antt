@@ -13,3 +13,14 @@ pub mod Said
 pub mod Sounding
 pub mod Rows
 pub mod Sayable
+pub mod Tokens
+pub mod TokenNames
+pub mod TreeNames
+pub mod Depths
+pub mod Named
+pub mod StatedSaid
+pub mod Writing
+pub mod Keeping
+pub mod Taking
+pub mod KeptText
+pub mod WholeKept

@@ -1,5 +1,5 @@
 -- What trees without faults state can be said: its term is that of the tree, and its names and operands are as they have to be.
-use Rattle.std.proofs.Common.{◌≡◌, ℕ, Bool, true, false, ◌&&◌, List, [], ◌∷◌, Option, Some, None, length, map, codes, refl, sym, ap, ap₂, ◌∙◌, arith, subst, if◌then◌else◌, bytes_eq, option_map}
+use Rattle.std.proofs.Common.{◌≡◌, ℕ, Bool, true, false, ◌&&◌, List, [], ◌∷◌, Option, Some, None, map, codes, refl, sym, ap, ap₂, ◌∙◌, arith, subst, if◌then◌else◌, bytes_eq, option_map}
 use Rattle.std.specs.List.{list_all}
 use Rattle.std.specs.Option.{is_some}
 use Rattle.std.proofs.lemmas.Bool.{and_parts, false≢true}
@@ -10,7 +10,7 @@ use Rattle.axioms.specs.Numbering.{Statement, DeclaresClass, DeclaresProperty, D
 use Rattle.fs_parser.specs.Tree.{Tree, Trees, Form, Empty, Then}
 use Rattle.program.specs.declared.version.Version.{Version}
 use Rattle.program.specs.declared.version.Version.TheVariants.{One, Two}
-use Rattle.shapes.specs.Faults.{behind_annotations, count_of, faults, faults_in}
+use Rattle.shapes.specs.Faults.{behind_annotations, count_of, faults}
 use Rattle.shapes.specs.Shapes.{Operands, Each, Shape, axiom_forms, entity_forms, fits_count, form_of, row, shape, shape_in, since, takes}
 use Rattle.shapes.specs.TreeStatements.{axiom_by, entity_by, entity_in, meaning, said, stated_by}
 use Rattle.shapes.specs.declared.expected.Expected.TheVariants.{Axiom, Class, ClassExpression, Entity, Individual, Property, PropertyOrChain}
@@ -30,13 +30,13 @@ use Rattle.statements_text.proofs.Sounding.{chain_plain, class_name_sound, class
 -- ---- rows
 
 -- the row of a keyword: its word and operands are those of its form, which is one of these and of the version
-record IsRow (version : Version) (fs : List shapes.Form) (k : List ℕ) (f : shapes.Form) : Type 0 where
-  word : (row f).0 ≡ k
-  taken : takes version (since f) ≡ true
-  operands : option_map (λ (s : Shape). s.2) (shape_in version (map shape fs) k) ≡ Some (row f).1
-  among : (p : shapes.Form → Bool) → list_all p fs ≡ true → p f ≡ true
+pub record IsRow (version : Version) (fs : List shapes.Form) (k : List ℕ) (f : shapes.Form) : Type 0 where
+  pub word : (row f).0 ≡ k
+  pub taken : takes version (since f) ≡ true
+  pub operands : option_map (λ (s : Shape). s.2) (shape_in version (map shape fs) k) ≡ Some (row f).1
+  pub among : (p : shapes.Form → Bool) → list_all p fs ≡ true → p f ≡ true
 
-row_is : (version : Version) (fs : List shapes.Form) (k : List ℕ) (f : shapes.Form) → option_map (λ (s : Shape). s.0) (shape_in version (map shape fs) k) ≡ Some f → IsRow version fs k f
+pub row_is : (version : Version) (fs : List shapes.Form) (k : List ℕ) (f : shapes.Form) → option_map (λ (s : Shape). s.0) (shape_in version (map shape fs) k) ≡ Some f → IsRow version fs k f
 row_is version [] k f h = absurd (none-some f h)
 row_is version (g ∷ gs) k f h = go (takes version (since g) && bytes_eq (row g).0 k) refl (λ i. row_is version gs k f i)
   where
@@ -110,7 +110,7 @@ three_terms k a b c = Of k (And a (And b (And c NoTerms)))
 three_are : (k : List ℕ) (a b c x y z : Term) → a ≡ x → b ≡ y → c ≡ z → three_terms k a b c ≡ three_terms k x y z
 three_are k a b c x y z e f g = rw (e, f, g) refl
 
-nothing_said : (s : Statement) → [] ≡ s ∷ [] → ⊥
+pub nothing_said : (s : Statement) → [] ≡ s ∷ [] → ⊥
 nothing_said s e = cc
 
 module _ (version : Version) where

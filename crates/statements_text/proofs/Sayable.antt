@@ -1,5 +1,5 @@
 -- What trees without faults state can be said.
-use Rattle.std.proofs.Common.{◌≡◌, ℕ, ◌≤◌, ap, ◌∙◌, subst}
+use Rattle.std.proofs.Common.{◌≤◌, ap, ◌∙◌, subst}
 use Rattle.shapes.specs.Shapes.{takes}
 use Rattle.statements_text.specs.Terms.{Term, HasSpelling, term_depth}
 use Rattle.statements_text.specs.Theorems.{TreesCanBeSaid}

@@ -64,7 +64,7 @@ mutual
       let b = same_later rest (at + 1 + length (term_text first)) in
       rw (a, b) refl
 
-most : (a b n : ℕ) → a ≤ n → b ≤ n → max a b ≤ n
+pub most : (a b n : ℕ) → a ≤ n → b ≤ n → max a b ≤ n
 most a b n h k = max-le h k
 
 shallow : (n : ℕ) (ts : List Term) (at : ℕ) → AllShallow n ts → depth_of (lines_trees at ts) ≤ n

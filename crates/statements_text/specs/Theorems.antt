@@ -10,13 +10,15 @@ use Rattle.profile.specs.Documents.{AreTextOf, ReadsAs}
 use Rattle.profile.specs.Statements.{statement_of, statements}
 use Rattle.shapes.specs.Faults.{document_faults, faults}
 use Rattle.shapes.specs.declared.expected.Expected.TheVariants.{Axiom}
-use Rattle.fs_parser.specs.Tree.{Tree}
+use Rattle.fs_parser.specs.Tree.{Tree, Trees}
+use Rattle.statements_text.specs.Restrictions.{IsRestricted, kept_statements}
+use Rattle.statements_text.specs.declared.restriction.Restriction.{Restriction}
 use Rattle.fs_parser.specs.Document.{Document}
 use Rattle.profile.specs.Reading.{HasFewNames}
 use Rattle.program.specs.declared.version.Version.{Version}
 use Rattle.statements_text.specs.Sound.{AllSayable, IsSayable}
 use Rattle.statements_text.specs.Terms.{Term, AllSpelled, HasSpelling, document_tokens, statement_term, term_depth, terms_document}
-use Rattle.statements_text.specs.TreeTerms.{bare_term}
+use Rattle.statements_text.specs.TreeTerms.{IsAmong, bare_term}
 use Rattle.statements_text.specs.Texts.{document_text}
 
 -- the text spells its tokens
@@ -51,3 +53,21 @@ abbrev pub TreesCanBeSaid : Type 0
 TreesCanBeSaid =
     (version : Version) (t : Tree) (s : Statement) → faults version Axiom t ≡ [] → statement_of version t ≡ s ∷ [] →
     (bare_term t ≡ statement_term s) × (HasSpelling (bare_term t) → term_depth (bare_term t) ≤ 64 → IsSayable version s)
+
+-- what a tree of a text's document states, if the tree has no fault, can be said
+abbrev pub StatedCanBeSaid : Type 0
+StatedCanBeSaid =
+    (version : Version) (bytes : List ℕ) (d : Document) (t : Tree) (s : Statement) → AreTextOf bytes d → IsAmong d.trees t →
+    faults version Axiom t ≡ [] → statement_of version t ≡ s ∷ [] → IsSayable version s
+
+-- ---- what is kept of a document
+
+-- what is kept is stated by the document
+abbrev pub KeptIsStated : Type 0
+KeptIsStated = (version : Version) (ts : Trees) (s : Statement) → Contains (kept_statements version ts) s → Contains (statements version ts) s
+
+-- of a document without faults all is kept: it reads as the ontology of what is kept
+abbrev pub FaultlessIsKeptWhole : Type 0
+FaultlessIsKeptWhole =
+    (version : Version) (bytes : List ℕ) (d : Document) (r : Restriction) → AreTextOf bytes d → (kept : IsRestricted version d r) → document_faults version d.trees ≡ [] →
+    ReadsAs version bytes kept.ontology

@@ -1,5 +1,5 @@
 -- Terms of a document's trees: names as they are expanded, without places.
-use Rattle.std.specs.Prelude.{[]}
+use Rattle.std.specs.Prelude.{◌≡◌, [], ◌⊎◌}
 use Rattle.fs_parser.specs.Tree.{Tree, Trees, Name, Form, Empty, Then}
 use Rattle.shapes.specs.Faults.{behind_annotations}
 use Rattle.statements_text.specs.Terms.{Term, Terms, Word, Of, None, And}
@@ -19,3 +19,8 @@ abbrev mutual
 abbrev pub bare_term : Tree → Term
 bare_term (Form at keyword trees) = Of keyword (terms_in (behind_annotations trees))
 bare_term tree = term_in tree
+
+-- the tree is one of these
+abbrev pub IsAmong : Trees → Tree → Type 0
+IsAmong Empty tree = ⊥
+IsAmong (Then first rest) tree = (tree ≡ first) ⊎ IsAmong rest tree
