@@ -1,17 +1,17 @@
 //! The text of the lines of a derivation.
 
-ghost use Rattle.std.specs.Prelude.{◌≡◌, ◌↔◌, ◌<◌, ◌^◌, ◌++◌, ◌∷◌, [], IfOk, IsTrue, None, OnErr, OnOk, Some, length, map, option_map, true};
+ghost use Rattle.std.specs.Prelude.{◌≡◌, ◌↔◌, ◌<◌, ◌^◌, ◌++◌, ◌∷◌, [], IfOk, IsTrue, None, OnErr, OnOk, length, map, option_map, true};
 ghost use Rattle.axioms.specs.View.{at_number};
 ghost use Rattle.certificate.specs.Certificate.{source_of};
 ghost use Rattle.certificate.specs.Text.{certificate_text};
-ghost use Rattle.certificate.specs.View.{conclusion_of, line_of, listed_of, subject_of};
+ghost use Rattle.certificate.specs.View.{conclusion_of, line_of, subject_of};
 ghost use Rattle.certificate_text.specs.LineText as spec;
 ghost use Rattle.certificate_text.specs.LineText.{HasNumbersOf, text_to_domain};
 
 use crate::listed_text::ListedText;
-use crate::writing::{is_earlier, push_domain, push_first, push_line, push_listed};
+use crate::writing::{is_earlier, push_domain, push_first, push_line};
 use axioms::Memory;
-use certificate::{Conclusion, Format, FormatType, Line, Listed, Subject, are_premises};
+use certificate::{Conclusion, Format, FormatType, Line, Subject, are_premises};
 use std::alloc::Global;
 use std::marker::{Model, PhantomData};
 
@@ -171,20 +171,6 @@ impl<F: FormatType> LineText<F> {
             text,
             format: PhantomData,
         })
-    }
-
-    /// The text of the certificate of these lines and of an interpretation.
-    ///
-    /// # Errors
-    ///
-    /// `Memory` where memory was refused.
-    pub fn with_listed(self, listed: &Listed) -> Result<Vec<u8>, Memory>
-        ensures { IfOk result (λ v. v.items ≡ certificate_text F.format (record { lines = self; listed = Some (listed_of listed.now) })) }
-    {
-        let mut text = self.text;
-        push_listed(&mut text, F::format(), listed)?;
-        text.extend_from_slice(b"end\n")?;
-        Ok(text)
     }
 
     /// The text of the certificate of these lines alone, of a contradictory ontology.

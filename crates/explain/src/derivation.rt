@@ -3,17 +3,35 @@ ghost use Rattle.axioms.specs.Ontology.{Ontology as Ontology2};
 ghost use Rattle.axioms.specs.View.{at_number};
 ghost use Rattle.cert_check.specs.Derivation.{IsDerivation, IsDerived};
 ghost use Rattle.certificate.specs.Certificate.{source_of};
-ghost use Rattle.certificate.specs.View.{conclusion_of, subject_of};
+ghost use Rattle.certificate.specs.View.{conclusion_of, line_of, subject_of};
 ghost use Rattle.explain.specs.Step.{line_by};
 ghost use Rattle.explain.specs.SameLines.{SaysSame};
 ghost use Rattle.std.specs.Prelude.{◌≡◌, ◌/◌, ◌%◌, ◌^◌, ◌++◌, ◌∷◌, [], IfOk, IfSome, OnErr, OnOk, length, map, option_map};
 
 use crate::sink::LineSink;
 use axioms::{IndId, Memory};
-use certificate::{Conclusion, Rule, Subject};
-use std::alloc::Global;
+use certificate::{Conclusion, Line, Rule, Subject};
+use std::alloc::{AllocError, Global};
 use std::collections::BTreeMap;
 use std::marker::Model;
+
+// Makes the line the one by that rule, with the axiom of that number, from the lines of these numbers.
+fn set_line(
+    line: &mut Line,
+    conclusion: Conclusion,
+    rule: Rule,
+    axiom_number: Option<usize>,
+    premises: &[u64],
+) -> Result<(), AllocError>
+    ensures { OnOk result (line_of line.new ≡ line_by (conclusion_of conclusion) rule axiom_number premises.now) }
+{
+    line.premises.clear();
+    line.premises.extend_from_slice(premises)?;
+    line.conclusion = conclusion;
+    line.rule = rule;
+    line.axiom = axiom_number;
+    Ok(())
+}
 
 /// What the number of a line is kept by that says that the two, in this order, are one.
 fn key_of(first: IndId, second: IndId) -> u64
@@ -28,6 +46,8 @@ fn key_of(first: IndId, second: IndId) -> u64
 #[derive(Drop)]
 pub(crate) struct Derivation<L: LineSink> {
     sink: L,
+    // what the next line is made in
+    line: Line,
     // the numbers of lines that say that two individuals are one, by these two
     same: BTreeMap<u64, u64>,
 }
@@ -51,6 +71,12 @@ impl<L: LineSink> Derivation<L> {
     {
         Derivation {
             sink,
+            line: Line {
+                conclusion: Conclusion::Same(IndId(0), IndId(0)),
+                rule: Rule::K17,
+                axiom: None,
+                premises: Vec::new(alloc),
+            },
             same: BTreeMap::new(alloc),
         }
     }
@@ -73,7 +99,8 @@ impl<L: LineSink> Derivation<L> {
         ensures derivation { OnOk result ((o : Ontology2) → IsDerivation o self.old → IsDerived o self.old (line_by (conclusion_of conclusion) rule axiom_number premises.now) → IsDerivation o self.new) }
         ensures err { OnErr result (self.new ≡ self.old) }
     {
-        self.sink.add(conclusion, rule, axiom_number, premises)
+        set_line(&mut self.line, conclusion, rule, axiom_number, premises)?;
+        self.sink.add(&self.line)
     }
 
     /// What the line of that number speaks of: its subject, or the start of its edge.

@@ -9,11 +9,10 @@ ghost use Rattle.exactness.specs.ListedInterpretation.{IsConsistent};
 ghost use Rattle.exactness.specs.Theorems.{HaveFacts};
 ghost use Rattle.explain.specs.Needs.{Derives, DerivesContradiction, EachIsNeeded};
 ghost use Rattle.normal_forms.specs.Forms.{Whole};
-ghost use Rattle.std.specs.Prelude.{◌≡◌, [], IfOk, MatchOption, OnOk};
+ghost use Rattle.std.specs.Prelude.{◌≡◌, [], IfOk, MatchOption};
 
-use crate::derivation::Derivation;
 use crate::shown::{add_goal, add_lines};
-use crate::sink::{LineList, LineSink, TextOfLines};
+use crate::sink::LineSink;
 use crate::wanted::{first_contradiction, number_of, wanted};
 use axioms::{ExprId, Memory};
 use certificate::{FormatType, Line};
@@ -22,43 +21,40 @@ use engine::{Closed, Indexed};
 use facts::{Context, Fact};
 use normal_forms::Class2;
 
-/// Adds a derivation with a line for each named class or expression that is asked about that is a fact of a named class, of an
-/// individual or of an expression that is asked about.
+/// Adds to a sink of no lines a derivation with a line for each named class or expression that is asked about that is a fact of a named
+/// class, of an individual or of an expression that is asked about, and gives it back.
 ///
 /// # Errors
 ///
 /// `Memory` where memory was refused.
-fn add_facts<L: LineSink>(closed: &Closed<'_>, derivation: &mut Derivation<L>) -> Result<(), Memory>
-    requires none { derivation.old ≡ [] }
-    ensures derivation { OnOk result (IsDerivation closed.now.ontology derivation.new) }
-    ensures facts { OnOk result (HaveFacts closed.now.ontology closed.now.saturation.normal.asked derivation.new) }
-    ensures needed { OnOk result (EachIsNeeded closed.now.ontology closed.now.saturation.normal.asked derivation.new) }
+fn add_facts<L: LineSink>(closed: &Closed<'_>, sink: L) -> Result<L, Memory>
+    requires none { L.lines sink ≡ [] }
+    ensures derivation { IfOk result (λ s. IsDerivation closed.now.ontology (L.lines s)) }
+    ensures facts { IfOk result (λ s. HaveFacts closed.now.ontology closed.now.saturation.normal.asked (L.lines s)) }
+    ensures needed { IfOk result (λ s. EachIsNeeded closed.now.ontology closed.now.saturation.normal.asked (L.lines s)) }
 {
     closed.well_formed();
     let asked = closed.normal().asked();
     let marks = wanted(closed.allocator(), closed.ontology(), asked, closed.facts())?;
-    add_lines(closed, marks, derivation)
+    add_lines(closed, marks, sink)
 }
 
-/// Adds a derivation of a contradiction, where there is one.
+/// Adds to a sink of no lines a derivation of a contradiction, where there is one, and gives it back.
 ///
 /// # Errors
 ///
 /// `Memory` where memory was refused.
-fn add_contradiction<L: LineSink>(
-    closed: &Closed<'_>,
-    derivation: &mut Derivation<L>,
-) -> Result<(), Memory>
+fn add_contradiction<L: LineSink>(closed: &Closed<'_>, sink: L) -> Result<L, Memory>
     requires contradictory { IsConsistent closed.now.ontology closed.now.saturation.normal.asked → ⊥ }
-    requires none { derivation.old ≡ [] }
-    ensures { OnOk result (DerivesContradiction closed.now.ontology derivation.new) }
+    requires none { L.lines sink ≡ [] }
+    ensures { IfOk result (λ s. DerivesContradiction closed.now.ontology (L.lines s)) }
 {
     closed.well_formed();
     let Some(goal) = first_contradiction(closed.ontology(), closed.facts()) else {
         // With no such fact there is no contradiction.
         unreachable!()
     };
-    add_goal(closed, goal, derivation)
+    add_goal(closed, goal, sink)
 }
 
 /// A derivation with a line for each named class or expression that is asked about that is a fact of a named class, of an individual
@@ -72,10 +68,7 @@ pub fn lines(closed: &Closed<'_>) -> Result<Vec<Line>, Memory>
     ensures facts { IfOk result (λ v. HaveFacts closed.now.ontology closed.now.saturation.normal.asked (lines_of v.items)) }
     ensures needed { IfOk result (λ v. EachIsNeeded closed.now.ontology closed.now.saturation.normal.asked (lines_of v.items)) }
 {
-    let alloc = closed.allocator();
-    let mut derivation = Derivation::new(alloc, LineList::new(alloc));
-    add_facts(closed, &mut derivation)?;
-    Ok(derivation.into_sink().into_lines())
+    add_facts(closed, Vec::new(closed.allocator()))
 }
 
 /// A derivation that ends in a contradiction, where there is one; each other line is a premise of a later one.
@@ -87,10 +80,7 @@ pub fn contradiction(closed: &Closed<'_>) -> Result<Vec<Line>, Memory>
     requires contradictory { IsConsistent closed.now.ontology closed.now.saturation.normal.asked → ⊥ }
     ensures { IfOk result (λ v. DerivesContradiction closed.now.ontology (lines_of v.items)) }
 {
-    let alloc = closed.allocator();
-    let mut derivation = Derivation::new(alloc, LineList::new(alloc));
-    add_contradiction(closed, &mut derivation)?;
-    Ok(derivation.into_sink().into_lines())
+    add_contradiction(closed, Vec::new(closed.allocator()))
 }
 
 /// A derivation that ends in that the context lies in the class, where that is a fact; each other line is a premise of a later one.
@@ -114,10 +104,8 @@ pub fn lines_of(
     let Some(goal) = number_of(indexed, wanted) else {
         return Ok(None);
     };
-    let alloc = closed.allocator();
-    let mut derivation = Derivation::new(alloc, LineList::new(alloc));
-    add_goal(closed, goal, &mut derivation)?;
-    Ok(Some(derivation.into_sink().into_lines()))
+    let lines = add_goal(closed, goal, Vec::new(closed.allocator()))?;
+    Ok(Some(lines))
 }
 
 /// The lines that `lines` gives, as text of a format: no line is held in memory.
@@ -130,10 +118,7 @@ pub fn line_text<F: FormatType>(closed: &Closed<'_>) -> Result<LineText<F>, Memo
     ensures facts { IfOk result (λ t. HaveFacts closed.now.ontology closed.now.saturation.normal.asked t) }
     ensures needed { IfOk result (λ t. EachIsNeeded closed.now.ontology closed.now.saturation.normal.asked t) }
 {
-    let alloc = closed.allocator();
-    let mut facts = Derivation::new(alloc, TextOfLines::<F>::new(alloc)?);
-    add_facts(closed, &mut facts)?;
-    Ok(facts.into_sink().into_text())
+    add_facts(closed, LineText::new(closed.allocator())?)
 }
 
 /// The lines that `contradiction` gives, as text of a format.
@@ -145,8 +130,5 @@ pub fn contradiction_text<F: FormatType>(closed: &Closed<'_>) -> Result<LineText
     requires contradictory { IsConsistent closed.now.ontology closed.now.saturation.normal.asked → ⊥ }
     ensures { IfOk result (λ t. DerivesContradiction closed.now.ontology t) }
 {
-    let alloc = closed.allocator();
-    let mut derivation = Derivation::new(alloc, TextOfLines::<F>::new(alloc)?);
-    add_contradiction(closed, &mut derivation)?;
-    Ok(derivation.into_sink().into_text())
+    add_contradiction(closed, LineText::new(closed.allocator())?)
 }

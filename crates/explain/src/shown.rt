@@ -112,8 +112,8 @@ fn show_each<L: LineSink>(
     Ok(())
 }
 
-/// Adds lines that show each marked fact, with those of the facts that they rest on, to no lines. Of the last facts there may be no
-/// marks.
+/// Adds lines that show each marked fact, with those of the facts that they rest on, to a sink of none, and gives it back. Of the
+/// last facts there may be no marks.
 ///
 /// # Errors
 ///
@@ -121,12 +121,12 @@ fn show_each<L: LineSink>(
 pub(crate) fn add_lines<L: LineSink>(
     closed: &Closed<'_>,
     mut marks: Row,
-    derivation: &mut Derivation<L>,
-) -> Result<(), Memory>
+    sink: L,
+) -> Result<L, Memory>
     requires within { length marks ≤ length closed.now.saturation.state.facts }
-    requires none { derivation.old ≡ [] }
-    ensures derivation { OnOk result (IsDerivation closed.now.ontology derivation.new) }
-    ensures shown { OnOk result (ShowMarked closed.now.saturation marks (IsMarked marks) derivation.new) }
+    requires none { L.lines sink ≡ [] }
+    ensures derivation { IfOk result (λ s. IsDerivation closed.now.ontology (L.lines s)) }
+    ensures shown { IfOk result (λ s. ShowMarked closed.now.saturation marks (IsMarked marks) (L.lines s)) }
 {
     closed.well_formed();
     mark_older(closed, &mut marks);
@@ -136,26 +136,25 @@ pub(crate) fn add_lines<L: LineSink>(
         closed,
         paths: &paths,
     };
-    show_each(&basis, &marks, derivation)
+    let mut derivation = Derivation::new(basis.alloc, sink);
+    show_each(&basis, &marks, &mut derivation)?;
+    Ok(derivation.into_sink())
 }
 
-/// Adds to no lines a derivation that ends in the fact of that number, counted from 1, where it puts a context into a class.
+/// Adds to a sink of no lines a derivation that ends in the fact of that number, counted from 1, where it puts a context into a class,
+/// and gives it back.
 ///
 /// # Errors
 ///
 /// `Memory` where memory was refused.
-pub(crate) fn add_goal<L: LineSink>(
-    closed: &Closed<'_>,
-    goal: usize,
-    derivation: &mut Derivation<L>,
-) -> Result<(), Memory>
+pub(crate) fn add_goal<L: LineSink>(closed: &Closed<'_>, goal: usize, sink: L) -> Result<L, Memory>
     requires counted { 0 < goal }
     requires there { goal ≤ length closed.now.saturation.state.facts }
-    requires none { derivation.old ≡ [] }
-    ensures { OnOk result ((class : ExprId) (x : Context) → at_number closed.now.saturation.state.facts goal ≡ Some (In (Expr class) x) →
-        Derives closed.now.ontology (Sub (subject_of (context_of x)) class.0) derivation.new) }
+    requires none { L.lines sink ≡ [] }
+    ensures { IfOk result (λ s. (class : ExprId) (x : Context) → at_number closed.now.saturation.state.facts goal ≡ Some (In (Expr class) x) →
+        Derives closed.now.ontology (Sub (subject_of (context_of x)) class.0) (L.lines s)) }
 {
     let marks = goal_mark(closed.allocator(), goal)?;
-    add_lines(closed, marks, derivation)?;
-    Ok(())
+    let sink = add_lines(closed, marks, sink)?;
+    Ok(sink)
 }

@@ -1,5 +1,5 @@
 use Rattle.std.proofs.Common.{◌≡◌, Some, subst, subst₂, All, List}
-use Rattle.std.proofs.lemmas.Result.{on_ok_weaker}
+use Rattle.std.proofs.lemmas.Result.{IfOk-weaker}
 use Rattle.axioms.specs.Ontology.{Ontology}
 use Rattle.axioms.specs.View.{at_number}
 use Rattle.facts.specs.declared.contexts.Fact.{Fact}
@@ -23,7 +23,7 @@ add_goal-requires-clause-there g c =
 pub returns : goal.returns
 returns g c =
     let (f, at, is) = c.in-Some.ensures in
-    on_ok_weaker c.add_goal.result
-    (derives_contradiction c.args.closed.now.ontology c.args.closed.now.saturation.state.facts c.in-Some.goal c.add_goal.new.derivation f
+    IfOk-weaker c.add_goal.result _ _
+    (λ s. derives_contradiction c.args.closed.now.ontology c.args.closed.now.saturation.state.facts c.in-Some.goal (g.L.LineSink.lines s) f
     (subst (λ fs. at_number fs c.in-Some.goal ≡ Some f) c.facts.ensures at) (subst (λ (o : Ontology). IsContradictoryFact o f) c.ontology.ensures is))
     c.add_goal.ensures

@@ -1,7 +1,8 @@
-use Rattle.std.proofs.Common.{◌≡◌, ℕ, ◌≤◌, Some, length, sym, ap, subst, ◌∙◌}
+use Rattle.std.proofs.Common.{◌≡◌, ◌≤◌, Some, length, sym, ap, subst, ◌∙◌}
 use Rattle.axioms.specs.View.{at_number}
 use Rattle.axioms.specs.declared.ids.ExprId.{ExprId}
 use Rattle.certificate.specs.Certificate.{Sub}
+use Rattle.certificate.specs.View.{lines_of}
 use Rattle.closure.specs.Denotations.{context_of}
 use Rattle.exactness.specs.Derivability.{subject_of}
 use Rattle.engine.specs.Closed.{Closed}
@@ -26,9 +27,6 @@ add_goal-requires-clause-there c =
 
 pub returns : goal.returns
 returns c =
-    let x = c.args.subject in
-    let e = c.args.class in
     let (f, at, is) = c.in-Some.ensures in
-    let derives = subst (λ (k : Closed). (class : ExprId) (y : Context) → at_number k.saturation.state.facts c.in-Some.goal ≡ Some (In (Expr class) y) → Derives k.ontology (Sub (subject_of (context_of y)) class.0) c.add_goal.new.derivation)
-    c.closed-closed.ensures c.in_ok-add_goal.ensures in
-    subst (Derives c.args.indexed.now.ontology (Sub (subject_of (context_of x)) e.0)) (sym (c.into_lines.ensures ∙ c.into_sink.ensures)) (derives e x (at ∙ ap Some is))
+    subst (λ (k : Closed). (class : ExprId) (y : Context) → at_number k.saturation.state.facts c.in-Some.goal ≡ Some (In (Expr class) y) → Derives k.ontology (Sub (subject_of (context_of y)) class.0) (lines_of c.in_ok-lines.lines.items))
+    c.closed-closed.ensures c.in_ok-lines.ensures c.args.class c.args.subject (at ∙ ap Some is)

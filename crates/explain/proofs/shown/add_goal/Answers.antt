@@ -7,5 +7,5 @@ add_lines-requires-clause-within g c = omega (arith, c.in_ok-marks.ensures.long,
 
 pub returns : goal.returns
 returns g c = λ class x at.
-    goal_derived c.args.closed.now.ontology c.args.closed.now.saturation c.in_ok-marks.marks c.add_lines.new.derivation c.in_ok-add_lines.ensures.derivation c.in_ok-add_lines.ensures.shown class x
+    goal_derived c.args.closed.now.ontology c.args.closed.now.saturation c.in_ok-marks.marks (g.L.LineSink.lines c.in_ok-sink.sink) c.in_ok-sink.ensures.derivation c.in_ok-sink.ensures.shown class x
     c.args.goal c.in_ok-marks.ensures.exact at

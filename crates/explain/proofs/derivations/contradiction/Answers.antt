@@ -1,6 +1,0 @@
-use Rattle.std.proofs.Common.{sym, subst, ◌∙◌}
-use Rattle.explain.specs.Needs.{DerivesContradiction}
-use Rattle.explain.proofs.derivations.contradiction.Goals as goal
-
-pub returns : goal.returns
-returns c = subst (DerivesContradiction c.args.closed.now.ontology) (sym (c.into_lines.ensures ∙ c.into_sink.ensures)) c.in_ok-add_contradiction.ensures
