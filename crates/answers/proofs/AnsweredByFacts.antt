@@ -1,6 +1,6 @@
 -- What the facts of a saturation answer is what follows.
-use Rattle.std.proofs.Common.{◌≡◌, ◌↔◌, ℕ, ◌<◌, ◌⊎◌, inl, inr, ⊎_elim, Bool, true, List, length, slice_get, Some, refl, sym, ap, ◌∙◌, subst}
-use Rattle.std.proofs.lemmas.Option.{slice_get_within}
+use Rattle.std.proofs.Common.{◌≡◌, ◌↔◌, ℕ, ◌<◌, ◌⊎◌, inl, inr, ⊎_elim, Bool, List, length, slice_get, Some, refl, sym, ap, ◌∙◌, subst}
+use Rattle.number_sets.proofs.Members.{has_within}
 use Rattle.lemmas.proofs.Members.{Contains-from_slice_get, slice_get-from_Contains}
 use Rattle.axioms.specs.Expression.{ClassExpression, Iri, Named}
 use Rattle.axioms.specs.Ontology.{Ontology, IsClassAt, nothing, name_at, individual_name, expression, axiom_trees}
@@ -19,16 +19,16 @@ use Rattle.normalise.specs.Problem.{prefixes_of}
 use Rattle.engine.specs.Saturations.{Saturated, IsSaturated}
 use Rattle.countermodel.proofs.Facts.{code_of, whole_said}
 use Rattle.classification.specs.Lists.{SomeFact}
-use Rattle.answers.specs.Selections.{Answers, AreAnswers, FollowsFor, IsEvery, PutsExpression, PutsIndividual, expression_asked, names_asked}
+use Rattle.answers.specs.Selections.{Answers, AreGiven, FollowsFor, IsEvery, PutsExpression, PutsIndividual, expression_asked, names_asked}
 use Rattle.answers.specs.Entailment.{LiesBelow, BelongsTo}
 use Rattle.answers.specs.Explanations.{IsClassNamed}
-use Rattle.answers.specs.Neighbours.{AreMarksAmong, AreMarksOf}
-use Rattle.answers.specs.Names.{AreThose, HasMark, IsMarked}
+use Rattle.answers.specs.Neighbours.{AreMarksAmong}
+use Rattle.answers.specs.Names.{AreThose, IsMarked}
 use Rattle.answers.specs.declared.selection.Selection.{Selection}
 use Rattle.answers.specs.declared.selection.Selection.TheVariants.{Above, Below, Members}
 use Rattle.answers.proofs.Deriving.{named_tree}
 use Rattle.answers.proofs.Following.{below_by_facts, members_by_facts}
-use Rattle.answers.proofs.Naming.{mark_tells, those_same}
+use Rattle.answers.proofs.Naming.{those_same}
 
 module _ (o : Ontology) (w : IsOntology o) (s : Saturated) (h : IsSaturated o s) where
   abbrev asked : List ℕ
@@ -116,49 +116,26 @@ module _ (o : Ontology) (w : IsOntology o) (s : Saturated) (h : IsSaturated o s)
   answer_follows (Below e) root n low = below_answers e root n low
   answer_follows (Members e) root n low = member_answers e root n low
 
-  -- the marks that answer are those of what follows, of a question about classes
-  pub marks_follow : (q : Selection) → IsRoot o asked (Expression (expression_asked q)) → names_asked o q ≡ o.names.classes → (size : ℕ) → size ≡ length o.names.classes → (marks : List Bool)
-      → AreAnswers o s q size marks → AreMarksOf o.names.classes (FollowsFor o q) marks
-  marks_follow q root classes size long marks are =
-      let here = subst (λ (n : ℕ). AreAnswers o s q n marks) (long ∙ sym (ap length classes)) are in
-      subst (λ (names : List Iri). AreMarksOf names (FollowsFor o q) marks) classes (record {
-        long = here.long;
-        exact = λ n low.
-            let mark = here.exact n low in
-            let follows = answer_follows q root n low in
-            (λ m. follows.0 (mark.0 m), λ f. mark.1 (follows.1 f));
-      })
+  module _ (q : Selection) (root : IsRoot o asked (Expression (expression_asked q))) (marks : List Bool) (long : length marks ≡ length (names_asked o q)) where
+    follows_at : (n : ℕ) → IsMarked marks n → (IsEvery o s q ⊎ SomeFact s.state.facts (λ fact. Answers o q fact n)) ↔ FollowsFor o q (name_at (names_asked o q) n)
+    follows_at n there = answer_follows q root n (subst (λ (k : ℕ). n < k) long (has_within marks n there))
 
-  -- the same of marked classes
-  pub among_follow : (e : ExprId) → IsRoot o asked (Expression e.0) → (marks found : List Bool) → length marks ≡ length o.names.classes → length found ≡ length marks
-      → ((n : ℕ) → IsMarked marks n → IsMarked found n ↔ (IsEvery o s (Below e) ⊎ SomeFact s.state.facts (λ fact. Answers o (Below e) fact n))) → AreMarksAmong marks o.names.classes (FollowsFor o (Below e)) found
-  among_follow e root marks found long same exact = record {
-    long = same ∙ long;
-    exact = λ n there.
-        let mark = exact n there in
-        let follows = answer_follows (Below e) root n (subst (λ (k : ℕ). n < k) long (slice_get_within marks n true there)) in
-        (λ m. follows.0 (mark.0 m), λ f. mark.1 (follows.1 f));
-  }
+    -- where every name is an answer, each marked one follows
+    pub all_follow : IsEvery o s q → (others : List Bool) → others ≡ marks → AreMarksAmong marks (names_asked o q) (FollowsFor o q) others
+    all_follow every others same = record {
+      long = ap length same ∙ long;
+      exact = λ n there. (λ m. (follows_at n there).0 (inl every), λ f. subst (λ (ms : List Bool). IsMarked ms n) (sym same) there);
+    }
 
-  -- the names that are marked are those that follow
-  those_follow : (q : Selection) → IsRoot o asked (Expression (expression_asked q)) → (marks : List Bool) (answer : List Iri)
-      → AreAnswers o s q (length (names_asked o q)) marks → AreThose (names_asked o q) (HasMark (names_asked o q) marks) answer → AreThose (names_asked o q) (FollowsFor o q) answer
-  those_follow q root marks answer are those =
-      those_same (names_asked o q) answer (HasMark (names_asked o q) marks) (FollowsFor o q) (mark_tells (names_asked o q) marks (FollowsFor o q) tells) those
-    where
-      tells : (n : ℕ) → n < length (names_asked o q) → IsMarked marks n ↔ FollowsFor o q (name_at (names_asked o q) n)
-      tells n low =
-          let mark = are.exact n low in
-          let follows = answer_follows q root n low in
-          (λ m. follows.0 (mark.0 m), λ f. mark.1 (follows.1 f))
-
-  -- the names that are marked are those that follow, by another list of names, marks and number, which are the same
-  pub those_named : (q : Selection) → IsRoot o asked (Expression (expression_asked q)) → (names : List Iri) → names ≡ names_asked o q → (size : ℕ) → size ≡ length names → (marks shown : List Bool) → shown ≡ marks
-      → AreAnswers o s q size marks → (answer : List Iri) → AreThose names (HasMark names shown) answer → AreThose (names_asked o q) (FollowsFor o q) answer
-  those_named q root names is size long marks shown same are answer those =
-      let here = subst (λ (n : ℕ). AreAnswers o s q n marks) (long ∙ ap length is) are in
-      let marked = subst (λ (xs : List Iri). AreThose xs (HasMark xs shown) answer) is those in
-      those_follow q root marks answer here (subst (λ (ms : List Bool). AreThose (names_asked o q) (HasMark (names_asked o q) ms) answer) same marked)
+    -- else those that facts give
+    pub given_follow : (IsEvery o s q → ⊥) → (others : List Bool) → AreGiven (Answers o q) s.state.facts marks others → AreMarksAmong marks (names_asked o q) (FollowsFor o q) others
+    given_follow never others given = record {
+      long = given.long ∙ long;
+      exact = λ n there.
+          let mark = given.exact n there in
+          let follows = follows_at n there in
+          (λ m. follows.0 (inr (mark.0 m)), λ f. mark.1 (⊎_elim (λ every. absurd (never every)) (λ g. g) (follows.1 f)));
+    }
 
 -- the names among which the answers are differ
 pub asked_apart : (o : Ontology) → IsOntology o → (q : Selection) → AreDistinct (names_asked o q)

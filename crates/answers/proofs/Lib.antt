@@ -1,4 +1,3 @@
-pub mod Among
 pub mod Deciding
 pub mod Existing
 pub mod Following
@@ -20,6 +19,5 @@ pub mod Nearby
 pub mod Grouping
 pub mod ListedBelow
 pub mod NamedSides
-pub mod NearestNames
 pub mod Parting
 pub mod Lent

@@ -1,6 +1,5 @@
 -- The lists of satisfiable classes have exactly what lies above them.
 use Rattle.std.proofs.Common.{◌≡◌, ◌↔◌, ◌⊎◌, ℕ, ◌<◌, Bool, true, List, length, inl, inr, ⊎_elim, sym, subst, subst₂}
-use Rattle.std.proofs.lemmas.Option.{slice_get_within}
 use Rattle.axioms.proofs.Trees.{class_tree}
 use Rattle.axioms.specs.Expression.{ClassExpression, Iri, Named, owl_nothing}
 use Rattle.axioms.specs.Ontology.{Ontology, axiom_trees, expression, name_at, nothing}
@@ -13,6 +12,7 @@ use Rattle.normal_forms.specs.Forms.{Whole}
 use Rattle.engine.specs.Saturations.{IsSaturated, Saturated}
 use Rattle.interpretation_spec.specs.Interpretation.{IsBelow}
 use Rattle.normalise.specs.Problem.{prefixes_of}
+use Rattle.number_sets.proofs.Members.{has_within}
 use Rattle.taxonomy.specs.Relation.{is_listed}
 use Rattle.answers.specs.Entailment.{LiesBelow}
 use Rattle.answers.specs.Names.{IsMarked}
@@ -35,7 +35,7 @@ module _ (o : Ontology) (w : IsOntology o) (s : Saturated) (h : IsSaturated o s)
   pub listed_below : (n d : ℕ) → IsMarked marks n → d < length o.names.classes → (is_listed lists n d ≡ true) ↔ LiesBelow o (name n) (name d)
   listed_below n d mark low =
       let asked = s.normal.asked in
-      let (e, class) = w.class_nodes n (subst (λ (k : ℕ). n < k) long (slice_get_within marks n true mark)) in
+      let (e, class) = w.class_nodes n (subst (λ (k : ℕ). n < k) long (has_within marks n mark)) in
       let (f, above) = w.class_nodes d low in
       let puts = below_by_fact o asked w (prefixes_of s.normal) s.state.facts h.facts n d e f class above in
       let by = below_by_facts o w s h e f (IsRoot.named n e class) (IsRoot.named d f above) in

@@ -2,7 +2,7 @@
 use Rattle.std.proofs.Common.{◌≡◌, ◌↔◌, ◌⊎◌, ◌∙◌, ◌<◌, ◌+◌, ℕ, List, [], ◌∷◌, ◌++◌, Bool, true, Some, Contains, inl, inr, ⊎_elim, length, take, slice_get, sym, ap, subst}
 use Rattle.std.proofs.lemmas.List.{length-append}
 use Rattle.std.proofs.lemmas.List.Elements.{Contains-append_left, Contains-append_right, Contains-append_cases}
-use Rattle.std.proofs.lemmas.Option.{same_Some, slice_get_within}
+use Rattle.std.proofs.lemmas.Option.{same_Some}
 use Rattle.lemmas.proofs.Members.{Contains-first, Contains-none, Contains-one}
 use Rattle.lemmas.proofs.Places.{take_push}
 use Rattle.axioms.proofs.Trees.{one_class}
@@ -15,7 +15,7 @@ use Rattle.closure.proofs.Names.{expr_id}
 use Rattle.facts.specs.declared.contexts.Context.TheVariants as contexts
 use Rattle.facts.specs.declared.contexts.Fact.{Fact}
 use Rattle.indexes.specs.FactIndex.{IsIn}
-use Rattle.number_sets.proofs.Members.{each_more, nothing_past}
+use Rattle.number_sets.proofs.Members.{each_more, has_within, nothing_past}
 use Rattle.number_sets.specs.Pieces.{list_at}
 use Rattle.saturate.specs.ServedFacts.{AreNumbersOf}
 use Rattle.taxonomy.specs.Relation.{is_listed}
@@ -127,7 +127,7 @@ module _ (o : Ontology) (marks : List Bool) (facts : List Fact) where
           let low = nothing_past lists c d there in
           (each c (subst (λ (n : ℕ). c < n) many low) d).0 there,
       λ v.
-          let low = slice_get_within marks c true v.3.0 in
+          let low = has_within marks c v.3.0 in
           (listed_is (list_at lists c) d).1 ((each c low d).1 v),
     );
   }

@@ -1,29 +1,149 @@
--- Marks on the numbers that facts give, fact after fact.
-use Rattle.std.proofs.Common.{◌≡◌, ◌↔◌, ℕ, ◌+◌, ◌<◌, ◌⊎◌, inl, inr, ⊎_elim, Bool, true, List, [], ◌∷◌, ◌++◌, length, take, slice_get, Option, Some, sym, ◌∙◌, subst}
-use Rattle.lemmas.proofs.Places.{slice_get_push, slice_get_push_cases, keeps_push, take_push}
+-- Marks that are made step after step, and those on the numbers that facts give.
+use Rattle.std.proofs.Common.{◌≡◌, ◌↔◌, ℕ, ◌+◌, ◌<◌, ◌≤◌, ◌⊎◌, inl, inr, ⊎_elim, Bool, true, false, List, length, replicate, slice_get, Option, Some, Contains, refl, sym, ◌∙◌, subst, arith, below_more}
+use Rattle.std.specs.Prelude.{slice_set}
+use Rattle.std.proofs.lemmas.Bool.{false≢true}
+use Rattle.std.proofs.lemmas.List.{length-replicate}
+use Rattle.std.proofs.lemmas.Option.{same_Some, slice_get_within}
+use Rattle.lemmas.proofs.Members.{slice_get-from_Contains}
+use Rattle.number_sets.proofs.Members.{has_none, has_set_cases, has_set_grows, has_set_same, has_within}
+use Rattle.axioms.specs.Ontology.{Ontology}
+use Rattle.facts.specs.declared.contexts.Context.TheVariants as contexts
 use Rattle.facts.specs.declared.contexts.Fact.{Fact}
+use Rattle.indexes.specs.FactIndex.{IsIn}
 use Rattle.classification.specs.Lists.{SomeFact}
-use Rattle.answers.specs.Selections.{AreMarks, IsOnly}
+use Rattle.answers.specs.Selections.{Answers, AreGiven, IsOnly, MayAnswer}
 use Rattle.answers.specs.Names.{IsMarked}
+use Rattle.answers.specs.declared.selection.Selection.{Selection}
+use Rattle.answers.specs.declared.selection.Selection.TheVariants.{Above, Below, Members}
 
-one_more_fact : (P : Fact → Type 0) (facts : List Fact) (last : Fact) → SomeFact (facts ++ last ∷ []) P ↔ (SomeFact facts P ⊎ P last)
-one_more_fact P facts last = (
-  λ v. ⊎_elim (λ before. inl (v.0, v.1, before, v.3)) (λ now. inr (subst P (sym now.1) v.3)) (slice_get_push_cases facts last v.0 v.1 v.2),
-  λ h. ⊎_elim (λ v. (v.0, v.1, keeps_push facts last v.0 v.1 v.2, v.3)) (λ p. (length facts, last, slice_get_push facts last, p)) h,
+-- one of the first k steps gives the number
+abbrev pub GivenBefore : (ℕ → ℕ → Type 0) → ℕ → ℕ → Type 0
+GivenBefore gives k n = (j : ℕ) × (j < k) × gives j n
+
+module _ (gives : ℕ → ℕ → Type 0) (start : List Bool) where
+  -- the marks of the start, and those on what the first k steps give
+  pub record AreMarksAfter (k : ℕ) (marks : List Bool) : Type 0 where
+    pub long : length marks ≡ length start
+    pub exact : (n : ℕ) → n < length start → IsMarked marks n ↔ (IsMarked start n ⊎ GivenBefore gives k n)
+
+  pub no_step : (marks : List Bool) → marks ≡ start → AreMarksAfter 0 marks
+  no_step marks is = subst (AreMarksAfter 0) (sym is) (record {
+    long = refl;
+    exact = λ n low. (λ mark. inl mark, λ h. ⊎_elim (λ mark. mark) (λ v. (let less : v.0 < 0 = v.1 in absurd (omega (arith, less)))) h);
+  })
+
+  pub one_step : (k : ℕ) (old new : List Bool) → AreMarksAfter k old → length new ≡ length old → ((n : ℕ) → n < length old → IsMarked new n ↔ (IsMarked old n ⊎ gives k n)) → AreMarksAfter (k + 1) new
+  one_step k old new was long adds = record {
+    long = long ∙ was.long;
+    exact = λ n there.
+        let before = was.exact n there in
+        let step = adds n (subst (λ (m : ℕ). n < m) (sym was.long) there) in (
+          λ mark. ⊎_elim
+              (λ o. ⊎_elim (λ s. inl s) (λ v. (let less : v.0 < k = v.1 in inr (v.0, omega (arith, less), v.2))) (before.0 o))
+              (λ g. inr (k, omega arith, g)) (step.0 mark),
+          λ h. ⊎_elim
+              (λ s. step.1 (inl (before.1 (inl s))))
+              (λ v. below_more (λ (m : ℕ). gives m n → IsMarked new n) k (λ m less g. step.1 (inl (before.1 (inr (m, less, g))))) (λ g. step.1 (inr g)) v.0 v.1 v.2) h,
+        );
+  }
+
+  pub one_mark : (k : ℕ) (old new : List Bool) (answer : Option ℕ) → AreMarksAfter k old → IsOnly (gives k) answer → length new ≡ length old
+      → ((n : ℕ) → n < length old → IsMarked new n ↔ (IsMarked old n ⊎ (answer ≡ Some n))) → AreMarksAfter (k + 1) new
+  one_mark k old new answer was only long adds = one_step k old new was long (λ n there. (let step = adds n there in (
+    λ mark. ⊎_elim (λ o. inl o) (λ e. inr ((only n).1 e)) (step.0 mark),
+    λ h. step.1 (⊎_elim (λ o. inl o) (λ g. inr ((only n).0 g)) h),
+  )))
+
+-- where nothing was marked at the start
+module _ (gives : ℕ → ℕ → Type 0) (size k : ℕ) (marks : List Bool) (are : AreMarksAfter gives (replicate size false) k marks) where
+  pub as_long : length marks ≡ size
+  as_long = are.long ∙ length-replicate {A = Bool} size false
+
+  pub given_is : (n : ℕ) → n < size → IsMarked marks n ↔ GivenBefore gives k n
+  given_is n low =
+      let is = are.exact n (subst (λ (m : ℕ). n < m) (sym (length-replicate {A = Bool} size false)) low) in (
+        λ mark. ⊎_elim (λ s. absurd (false≢true (sym (has_none size n) ∙ s))) (λ v. v) (is.0 mark),
+        λ v. is.1 (inr v),
+      )
+
+-- ---- by what stands at each place of a list
+
+-- what stands at that place gives the number
+abbrev pub At : {A : Type 0} → List A → (A → ℕ → Type 0) → ℕ → ℕ → Type 0
+At {A} xs gives j n = (x : A) × (slice_get xs j ≡ Some x) × gives x n
+
+pub only_at : {A : Type 0} (xs : List A) (gives : A → ℕ → Type 0) (j : ℕ) (x : A) → slice_get xs j ≡ Some x → (answer : Option ℕ) → IsOnly (gives x) answer → IsOnly (At xs gives j) answer
+only_at {A} xs gives j x at answer only n = (
+  λ v. (only n).0 (subst (λ (y : A). gives y n) (same_Some v.0 x (sym v.1 ∙ at)) v.2),
+  λ e. (x, at, (only n).1 e),
 )
 
-module _ (gives : Fact → ℕ → Type 0) (every : Bool) (size : ℕ) where
-  pub marks_more : (facts : List Fact) (i : ℕ) (fact : Fact) → slice_get facts i ≡ Some fact → (old new : List Bool) (answer : Option ℕ)
-      → AreMarks gives (take i facts) every size old → IsOnly (gives fact) answer → length new ≡ length old
-      → ((m : ℕ) → m < length old → IsMarked new m ↔ (IsMarked old m ⊎ (answer ≡ Some m))) → AreMarks gives (take (i + 1) facts) every size new
-  marks_more facts i fact at old new answer before is long adds =
-      subst (λ fs. AreMarks gives fs every size new) (sym (take_push facts i fact at)) (record { long = long ∙ before.long; exact = each })
-    where
-      each : (n : ℕ) → n < size → IsMarked new n ↔ ((every ≡ true) ⊎ SomeFact (take i facts ++ fact ∷ []) (λ f. gives f n))
-      each n low =
-          let more = one_more_fact (λ f. gives f n) (take i facts) fact in
-          let was = before.exact n low in
-          let step = adds n (subst (λ k. n < k) (sym before.long) low) in (
-            λ mark. ⊎_elim (λ old. ⊎_elim (λ t. inl t) (λ v. inr (more.1 (inl v))) (was.0 old)) (λ e. inr (more.1 (inr ((is n).1 e)))) (step.0 mark),
-            λ h. step.1 (⊎_elim (λ t. inl (was.1 (inl t))) (λ v. ⊎_elim (λ u. inl (was.1 (inr u))) (λ p. inr ((is n).0 p)) (more.0 v)) h),
-          )
+-- ---- by facts
+
+module _ (gives : Fact → ℕ → Type 0) (facts : List Fact) (marks found : List Bool) (k : ℕ) where
+  pub by_all : AreMarksAfter (At facts gives) (replicate (length marks) false) k found → length facts ≤ k → AreGiven gives facts marks found
+  by_all are end = record {
+    long = as_long (At facts gives) (length marks) k found are;
+    exact = λ n mark.
+        let is = given_is (At facts gives) (length marks) k found are n (has_within marks n mark) in (
+          λ m. (let (j, less, (f, at, g)) = is.0 m in (j, f, at, g)),
+          λ (j, f, at, g). is.1 (j, omega (arith, slice_get_within facts j f at, end), (f, at, g)),
+        );
+  }
+
+  -- by those of some numbers, among which are all that give any
+  pub by_some : (numbers : List ℕ) → AreMarksAfter (At numbers (At facts gives)) (replicate (length marks) false) k found → length numbers ≤ k
+      → ((n m : ℕ) (f : Fact) → slice_get facts m ≡ Some f → gives f n → Contains numbers m) → AreGiven gives facts marks found
+  by_some numbers are end all = record {
+    long = as_long (At numbers (At facts gives)) (length marks) k found are;
+    exact = λ n mark.
+        let is = given_is (At numbers (At facts gives)) (length marks) k found are n (has_within marks n mark) in (
+          λ h. (let (j, less, (m, there, (f, at, g))) = is.0 h in (m, f, at, g)),
+          λ (m, f, at, g).
+              let (j, there) = slice_get-from_Contains numbers m (all n m f at g) in
+              is.1 (j, omega (arith, slice_get_within numbers j m there, end), (m, there, (f, at, g))),
+        );
+  }
+
+-- ---- by the search for a fact that gives a marked number
+
+abbrev pub IsFound : (Fact → ℕ → Type 0) → List Fact → List Bool → ℕ → ℕ → Type 0
+IsFound gives facts marks j n = (n ≡ j) × IsMarked marks n × SomeFact facts (λ fact. gives fact n)
+
+module _ (gives : Fact → ℕ → Type 0) (facts : List Fact) (marks found : List Bool) (k : ℕ) (was : AreMarksAfter (IsFound gives facts marks) (replicate (length marks) false) k found) where
+  abbrev find : ℕ → ℕ → Type 0
+  find = IsFound gives facts marks
+
+  pub by_search : length marks ≤ k → AreGiven gives facts marks found
+  by_search end = record {
+    long = as_long find (length marks) k found was;
+    exact = λ n mark.
+        let low = has_within marks n mark in
+        let is = given_is find (length marks) k found was n low in
+        (λ m. (let (j, less, (e, there, given)) = is.0 m in given), λ given. is.1 (n, omega (arith, low, end), (refl, mark, given)));
+  }
+
+  pub one_found : (new : List Bool) → new ≡ slice_set found k true → IsMarked marks k → SomeFact facts (λ fact. gives fact k) → length new ≡ length found
+      → AreMarksAfter find (replicate (length marks) false) (k + 1) new
+  one_found new is mark given long = one_step find (replicate (length marks) false) k found new was long (λ n there. (
+    λ m. ⊎_elim
+        (λ e. inr (e, subst (IsMarked marks) (sym e) mark, subst (λ (j : ℕ). SomeFact facts (λ fact. gives fact j)) (sym e) given))
+        (λ old. inl old)
+        (has_set_cases found k n (subst (λ (ms : List Bool). IsMarked ms n) is m)),
+    λ h. subst (λ (ms : List Bool). IsMarked ms n) (sym is) (⊎_elim
+        (λ old. has_set_grows found k n old)
+        (λ v. subst (IsMarked (slice_set found k true)) (sym v.0) (has_set_same found k (subst (λ (j : ℕ). j < length found) v.0 there))) h),
+  ))
+
+  pub none_found : (IsMarked marks k → SomeFact facts (λ fact. gives fact k) → ⊥) → AreMarksAfter find (replicate (length marks) false) (k + 1) found
+  none_found never = one_step find (replicate (length marks) false) k found found was refl (λ n there. (
+    λ m. inl m,
+    λ h. ⊎_elim (λ m. m) (λ (e, m, given). absurd (never (subst (IsMarked marks) e m) (subst (λ (j : ℕ). SomeFact facts (λ fact. gives fact j)) e given))) h,
+  ))
+
+-- ---- which facts may answer
+
+pub may_answer : (o : Ontology) (q : Selection) (f : Fact) (n : ℕ) → Answers o q f n → MayAnswer q f
+may_answer o (Above e) f n (h, class, puts) = subst (IsIn (contexts.Expr e)) (sym puts) refl
+may_answer o (Below e) f n given = tt
+may_answer o (Members e) f n given = tt

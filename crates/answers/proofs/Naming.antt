@@ -7,7 +7,7 @@ use Rattle.std.specs.declared.cmp.Ordering.TheVariants.{Less, Equal, Greater}
 use Rattle.std.specs.Ordering.{is_lt, is_eq, nat_cmp, ordering_reverse}
 use Rattle.std.specs.List.{IsDistinct}
 use Rattle.std.specs.Str.{bytes_eq}
-use Rattle.std.proofs.lemmas.Bool.{false_from_ne_true, false≢true}
+use Rattle.std.proofs.lemmas.Bool.{false_from_ne_true}
 use Rattle.std.proofs.lemmas.Cmp.{nat_list_cmp_total}
 use Rattle.std.proofs.lemmas.List.{get_or-map, length-map, map-append}
 use Rattle.std.proofs.lemmas.List.Sorted.{Contains-permutation, IsPermutation-map, IsPermutation-sym, ranks_by, sorted_far}
@@ -24,6 +24,7 @@ use Rattle.axioms.specs.Expression.{Iri}
 use Rattle.axioms.specs.Ontology.{name_at}
 use Rattle.axioms.specs.WellFormedness.{AreDistinct}
 use Rattle.answers.specs.Names.{AreInByteOrder, AreMarkedBelow, AreNamesOf, AreThose, HasMark, HasNumber, IsMarked}
+use Rattle.answers.specs.Neighbours.{AreMarksOf}
 
 -- ---- the same names by another property
 
@@ -45,6 +46,9 @@ mark_tells names marks Q tells name there = (
       let (n, at) = slice_get-from_Contains names name there in
       (n, at, (tells n (slice_get_within names n name at)).1 (subst Q (sym (name_is names n name at)) q)),
 )
+
+pub those_marked : (names : List Iri) (P : Iri → Type 0) (marks : List Bool) → AreMarksOf names P marks → (answer : List Iri) → AreThose names (HasMark names marks) answer → AreThose names P answer
+those_marked names P marks are answer those = those_same names answer (HasMark names marks) P (mark_tells names marks P are.exact) those
 
 -- ---- one name after another
 
@@ -201,12 +205,6 @@ pushed k names marks old new s was is distinct here mark =
     let now : List (Bor Iri) → List Iri = λ xs. map (λ s. s.now) xs in
     let is_now : now new ≡ now old ++ s.now ∷ [] = ap now is ∙ map-append (λ (s : Bor Iri). s.now) old (s ∷ []) in
     subst (λ (xs : List Iri). AreMarkedBelow (k + 1) names marks xs) (sym is_now) (one_marked k names marks (now old) was s.now distinct here mark)
-
-pub marked_at : (marks : List Bool) (k : ℕ) (d : Bool) → k < length marks → get_or marks k d ≡ true → IsMarked marks k
-marked_at marks k d low is = slice_get-get_or marks k d low ∙ ap (λ t. Some t) is
-
-pub unmarked_at : (marks : List Bool) (k : ℕ) (d : Bool) → k < length marks → get_or marks k d ≡ false → IsMarked marks k → ⊥
-unmarked_at marks k d low is mark = false≢true (same_Some false true (sym (slice_get-get_or marks k d low ∙ ap (λ t. Some t) is) ∙ mark))
 
 -- one name more, of the next number
 pub named_more : (names : List Iri) (numbers : List ℕ) (k n : ℕ) (old new : List (Bor Iri)) (s : Bor Iri) → slice_get numbers k ≡ Some n → new ≡ old ++ s ∷ [] → s.now ≡ name_at names n

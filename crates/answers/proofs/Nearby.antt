@@ -1,8 +1,10 @@
 -- The nearest of marked classes, by the lists of classes above them.
-use Rattle.std.proofs.Common.{◌≡◌, ◌↔◌, ℕ, ◌<◌, All, Bool, true, false, List, [], length, slice_get, get_or, Some, Contains, inl, inr, refl, sym, ap, ◌∙◌, subst, subst₂}
+use Rattle.std.proofs.Common.{◌≡◌, ◌↔◌, ℕ, ◌<◌, All, Bool, true, false, ◌&&◌, not, List, [], length, slice_get, get_or, Some, Contains, inl, inr, refl, sym, ap, ◌∙◌, subst, subst₂}
 use Rattle.std.proofs.lemmas.Bool.{cases_Bool, false≢true}
 use Rattle.std.proofs.lemmas.Option.{slice_get-get_or, slice_get_within}
 use Rattle.lemmas.proofs.Members.{Contains-from_slice_get, slice_get-from_Contains}
+use Rattle.number_sets.proofs.Members.{has_within}
+use Rattle.number_sets.specs.Members.{has as is_in}
 use Rattle.axioms.specs.Expression.{Iri}
 use Rattle.axioms.specs.Ontology.{Ontology, name_at}
 use Rattle.axioms.specs.WellFormedness.{IsOntology}
@@ -17,7 +19,7 @@ use Rattle.program.specs.declared.question.Side.TheVariants.{Above, Below}
 use Rattle.answers.proofs.Below.{same_back, strictly_same_left, strictly_same_right}
 use Rattle.answers.proofs.Listing.{listed_within}
 use Rattle.answers.proofs.Naming.{name_is}
-use Rattle.answers.proofs.Neighbouring.{groups_same}
+use Rattle.answers.proofs.Neighbouring.{apart_is, groups_same}
 
 -- the names of the nearest of the marked classes, as groups are made of them by the lists
 pub record AreNearest (o : Ontology) (marks : List Bool) (lists : List (List ℕ)) (side : Side) (names : List Iri) : Type 0 where
@@ -37,7 +39,7 @@ module _ (o : Ontology) (w : IsOntology o) (facts : List Fact) (marks : List Boo
   name n = name_at classes n
 
   low_of : (n : ℕ) → IsMarked marks n → n < length classes
-  low_of n mark = subst (λ (k : ℕ). n < k) long (slice_get_within marks n true mark)
+  low_of n mark = subst (λ (k : ℕ). n < k) long (has_within marks n mark)
 
   known_at : (n : ℕ) → n < length classes → Contains classes (name n)
   known_at n low = (let at = slice_get-get_or classes n [] low in Contains-from_slice_get classes n (name n) (at ∙ ap (λ x. Some x) (sym (name_is classes n (get_or classes n []) at))))
@@ -73,18 +75,21 @@ module _ (o : Ontology) (w : IsOntology o) (facts : List Fact) (marks : List Boo
   -- ---- the nearest
 
   module _ (side : Side) (far near : List Bool) (far_are : (n : ℕ) → n < length marks → IsMarked far n ↔ IsFarther lists marks side n)
-      (near_are : (n : ℕ) → n < length marks → IsMarked near n ↔ (IsMarked marks n × (IsMarked far n → ⊥))) (near_long : length near ≡ length marks) where
+      (near_long : length near ≡ length marks) (near_has : (n : ℕ) → is_in near n ≡ (is_in marks n && not (is_in far n))) where
+    near_are : (n : ℕ) → IsMarked near n ↔ (IsMarked marks n × (IsMarked far n → ⊥))
+    near_are n = apart_is marks far near n (near_has n)
+
     low_near : (n : ℕ) → IsMarked near n → n < length marks
-    low_near n mark = subst (λ (k : ℕ). n < k) near_long (slice_get_within near n true mark)
+    low_near n mark = subst (λ (k : ℕ). n < k) near_long (has_within near n mark)
 
     is_far : (n low high : ℕ) → IsMarked marks low → IsMarked marks high → LiesStrictlyBelow o (name low) (name high) → n ≡ farther side low high → n < length marks → IsMarked far n
     is_far n low high mark mark' strictly is n_low =
-        (far_are n n_low).1 (low, high, ((listed_below low high mark (low_of high mark')).1 strictly.0, mark', (not_listed high low mark' (low_of low mark)).1 strictly.1, is))
+        (far_are n n_low).1 (low, (high, (listed_below low high mark (low_of high mark')).1 strictly.0, (mark', (not_listed high low mark' (low_of low mark)).1 strictly.1, is)))
 
     far_is : (n : ℕ) → n < length marks → IsMarked far n
         → (low : ℕ) × (high : ℕ) × IsMarked marks low × IsMarked marks high × LiesStrictlyBelow o (name low) (name high) × (n ≡ farther side low high)
     far_is n n_low mark =
-        let (low, high, (listed, mark', not, is)) = (far_are n n_low).0 mark in
+        let (low, (high, listed, (mark', not, is))) = (far_are n n_low).0 mark in
         let here = marked_list low high listed in
         (low, high, here, mark', ((listed_below low high here (low_of high mark')).0 listed, (not_listed high low mark' (low_of low here)).0 not), is)
 
@@ -92,10 +97,10 @@ module _ (o : Ontology) (w : IsOntology o) (facts : List Fact) (marks : List Boo
     number_of x (n, at, mark) = (n, mark, name_is classes n x at)
 
     nearest_at : (n : ℕ) → n < length marks → IsMarked near n ↔ IsNearest o (HasMark classes marks) side (name n)
-    nearest_at n n_low = (λ mark. record { has = has mark; next = next mark }, λ h. (near_are n n_low).1 (one h, other side refl h))
+    nearest_at n n_low = (λ mark. record { has = has mark; next = next mark }, λ h. (near_are n).1 (one h, other side refl h))
       where
         has : IsMarked near n → HasMark classes marks (name n)
-        has mark = (let is = ((near_are n n_low).0 mark).0 in (n, at_name n (low_of n is), is))
+        has mark = (let is = ((near_are n).0 mark).0 in (n, at_name n (low_of n is), is))
 
         nearer : (s : Side) → side ≡ s → (m : ℕ) → IsMarked marks m → IsMarked marks n → IsNearer o s (name m) (name n) → IsMarked far n
         nearer Above is m mark mark' strictly = is_far n m n mark mark' strictly (ap (λ (s : Side). farther s m n) (sym is)) n_low
@@ -104,8 +109,8 @@ module _ (o : Ontology) (w : IsOntology o) (facts : List Fact) (marks : List Boo
         next : IsMarked near n → (x : Iri) → Contains classes x → HasMark classes marks x → IsNearer o side x (name n) → ⊥
         next mark x known marked strictly =
             let (m, mark', here) = number_of x marked in
-            let (is, not) = (near_are n n_low).0 mark in
-            not (nearer side refl m mark' is (subst (λ (y : Iri). IsNearer o side y (name n)) (sym here) strictly))
+            let (is, other) = (near_are n).0 mark in
+            other (nearer side refl m mark' is (subst (λ (y : Iri). IsNearer o side y (name n)) (sym here) strictly))
 
         one : IsNearest o (HasMark classes marks) side (name n) → IsMarked marks n
         one h =
@@ -161,7 +166,7 @@ module _ (o : Ontology) (w : IsOntology o) (facts : List Fact) (marks : List Boo
           let x = get_or names k d in
           let there = Contains-from_slice_get names k x (slice_get-get_or names k d low) in
           let (n, at, mark) = (those.each x there).1 in
-          subst (TellsGroup o lists) (name_is classes n x at) (tells_at n ((near_are n (low_near n mark)).0 mark).0)
+          subst (TellsGroup o lists) (name_is classes n x at) (tells_at n ((near_are n).0 mark).0)
 
       nearest_groups : (groups : List (List Iri)) → AreGroups o (Contains names) groups → AreGroups o (IsNearest o (HasMark classes marks) side) groups
       nearest_groups groups is = groups_same o (Contains names) (IsNearest o (HasMark classes marks) side) nearest_is groups is

@@ -7,6 +7,7 @@ use Rattle.std.specs.List.{AllPairs, Contains}
 use Rattle.std.specs.Ordering.{is_lt, nat_cmp}
 use Rattle.axioms.specs.Expression.{Iri}
 use Rattle.axioms.specs.WellFormedness.{AreDistinct}
+use Rattle.number_sets.specs.Members.{has}
 
 -- each name stands before the later ones in byte order
 abbrev pub AreInByteOrder : List Iri → Type 0
@@ -25,7 +26,7 @@ groups_in groups = map (λ group. map (λ name. name.now) group.items) groups
 -- ---- by number
 
 abbrev pub IsMarked : List Bool → ℕ → Type 0
-IsMarked marks n = slice_get marks n ≡ Some true
+IsMarked marks n = has marks n ≡ true
 
 -- the name has a number for which it holds
 abbrev pub HasNumber : List Iri → (ℕ → Type 0) → Iri → Type 0

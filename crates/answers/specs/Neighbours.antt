@@ -60,13 +60,17 @@ abbrev pub farther : Side → (low high : ℕ) → ℕ
 farther Above low high = high
 farther Below low high = low
 
--- it is the farther one of a class and of one in its list that is marked and has not the class in its own
+-- it is the farther one of a class and of one that is marked and has not the class in its list
 abbrev pub IsFartherOf : (lists : List (List ℕ)) → (marks : List Bool) → Side → (low high : ℕ) → ℕ → Type 0
-IsFartherOf lists marks side low high n = (is_listed lists low high ≡ true) × IsMarked marks high × (is_listed lists high low ≡ false) × (n ≡ farther side low high)
+IsFartherOf lists marks side low high n = IsMarked marks high × (is_listed lists high low ≡ false) × (n ≡ farther side low high)
 
--- it is the farther one of two such
+-- it is that of the class and of one in its list
+abbrev pub IsFartherFrom : (lists : List (List ℕ)) → (marks : List Bool) → Side → (low : ℕ) → ℕ → Type 0
+IsFartherFrom lists marks side low n = (high : ℕ) × (is_listed lists low high ≡ true) × IsFartherOf lists marks side low high n
+
+-- it is that of some class
 abbrev pub IsFarther : (lists : List (List ℕ)) → (marks : List Bool) → Side → ℕ → Type 0
-IsFarther lists marks side n = (low : ℕ) × (high : ℕ) × IsFartherOf lists marks side low high n
+IsFarther lists marks side n = (low : ℕ) × IsFartherFrom lists marks side low n
 
 -- a class that is the same as one of the names is one of them
 abbrev pub IsClosed : Ontology → List Iri → Type 0

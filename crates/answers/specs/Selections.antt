@@ -1,5 +1,5 @@
 -- What facts answer about a class expression, and what follows about it.
-use Rattle.std.specs.Prelude.{◌≡◌, ◌↔◌, ◌⊎◌, ◌<◌, ℕ, List, Bool, true, length, Option, Some}
+use Rattle.std.specs.Prelude.{◌≡◌, ◌↔◌, ◌⊎◌, ℕ, List, Bool, length, Option, Some}
 use Rattle.axioms.specs.Expression.{Iri, Named}
 use Rattle.axioms.specs.Ontology.{Ontology, IsClassAt, nothing, expression, axiom_trees}
 use Rattle.classification.specs.Lists.{SomeFact}
@@ -70,12 +70,7 @@ IsEvery o s (Above e) = (IsConsistent o s.normal.asked → ⊥) ⊎ SomeFact s.s
 IsEvery o s (Below e) = IsConsistent o s.normal.asked → ⊥
 IsEvery o s (Members e) = IsConsistent o s.normal.asked → ⊥
 
--- so many marks: on all numbers, or on those that some fact gives
-pub record AreMarks (gives : Fact → ℕ → Type 0) (facts : List Fact) (every : Bool) (size : ℕ) (marks : List Bool) : Type 0 where
-  pub long : length marks ≡ size
-  pub exact : (n : ℕ) → n < size → IsMarked marks n ↔ ((every ≡ true) ⊎ SomeFact facts (λ fact. gives fact n))
-
--- so many marks, on the numbers that answer the question
-pub record AreAnswers (o : Ontology) (s : Saturated) (question : Selection) (size : ℕ) (marks : List Bool) : Type 0 where
-  pub long : length marks ≡ size
-  pub exact : (n : ℕ) → n < size → IsMarked marks n ↔ (IsEvery o s question ⊎ SomeFact s.state.facts (λ fact. Answers o question fact n))
+-- of the marked numbers, others are on exactly those that some fact gives; of numbers without a mark it says nothing
+pub record AreGiven (gives : Fact → ℕ → Type 0) (facts : List Fact) (marks others : List Bool) : Type 0 where
+  pub long : length others ≡ length marks
+  pub exact : (n : ℕ) → IsMarked marks n → IsMarked others n ↔ SomeFact facts (λ fact. gives fact n)

@@ -9,7 +9,7 @@ use axioms::{Memory, Ontology};
 use classification::class_pair;
 use engine::Indexed;
 use facts::{Context, StoredFact};
-use number_sets::PackedLists;
+use number_sets::{PackedLists, Row};
 use std::alloc::Global;
 
 /// The classes that the facts of these numbers put above one.
@@ -53,12 +53,12 @@ fn classes_above(indexed: &Indexed<'_>, class: usize) -> Result<Vec<u32>, Memory
 }
 
 /// The same where the class is marked, and else no class.
-fn list_of(indexed: &Indexed<'_>, marks: &[bool], class: usize) -> Result<Vec<u32>, Memory>
+fn list_of(indexed: &Indexed<'_>, marks: &Row, class: usize) -> Result<Vec<u32>, Memory>
     requires class { class < length marks.now }
     requires long { length marks.now ≡ length indexed.now.ontology.names.classes }
     ensures { IfOk result (λ v. (d : ℕ) → Contains v.items d ↔ SomeFact indexed.now.saturation.state.facts (λ fact. PutsMarked indexed.now.ontology marks.now fact class d)) }
 {
-    if marks[class] {
+    if marks.contains(class) {
         classes_above(indexed, class)
     } else {
         Ok(Vec::new(indexed.closed().allocator()))
@@ -70,7 +70,7 @@ fn list_of(indexed: &Indexed<'_>, marks: &[bool], class: usize) -> Result<Vec<u3
 /// # Errors
 ///
 /// `Memory` where memory was refused.
-pub(crate) fn lists_above(indexed: &Indexed<'_>, marks: &[bool]) -> Result<PackedLists, Memory>
+pub(crate) fn lists_above(indexed: &Indexed<'_>, marks: &Row) -> Result<PackedLists, Memory>
     requires { length marks.now ≡ length indexed.now.ontology.names.classes }
     ensures { IfOk result
         (AreListsBy (PutsMarked indexed.now.ontology marks.now) (length indexed.now.ontology.names.classes) indexed.now.saturation.state.facts) }

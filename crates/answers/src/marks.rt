@@ -1,19 +1,22 @@
 //! Marks on the numbers that facts answer with.
-ghost use Rattle.answers.specs.Selections.{Answers, AreAnswers, AreMarks, IsAnswer, IsEvery, MayAnswer, PutsExpression, PutsIndividual};
 ghost use Rattle.answers.specs.Names.{IsMarked};
+ghost use Rattle.answers.specs.Neighbours.{AreMarksAmong, AreMarksOf};
+ghost use Rattle.answers.specs.Selections.{Answers, AreGiven, FollowsFor, IsAnswer, IsEvery, MayAnswer, PutsExpression, PutsIndividual, expression_asked, names_asked};
 ghost use Rattle.answers.specs.declared.selection.Selection.TheVariants as asked;
 ghost use Rattle.axioms.specs.Ontology.{nothing};
 ghost use Rattle.classification.specs.Lists.{SomeFact};
+ghost use Rattle.closure.specs.Closure.{Expression, IsRoot};
 ghost use Rattle.saturate.specs.ServedFacts.{AreNumbersOf};
-ghost use Rattle.std.specs.Prelude.{◌<◌, ◌≤◌, ◌^◌, ◌↔◌, ◌≡◌, ◌⊎◌, IfOk, IfSome, IsTrue, MatchOption, Some, length, true, ℕ};
+ghost use Rattle.std.specs.Prelude.{◌<◌, ◌≤◌, ◌^◌, ◌↔◌, ◌≡◌, ◌⊎◌, IfOk, IfSome, IsTrue, MatchOption, Some, length, ℕ};
 
-use crate::named::{class_numbered, few_classes};
+use crate::named::class_numbered;
 use crate::selection::Selection;
 use axioms::{ExprId, IndId, Memory, Ontology};
 use classification::is_consistent;
 use engine::{Closed, Indexed};
 use facts::{Context, Fact, StoredFact};
 use normal_forms::Class2;
+use number_sets::Row;
 use std::alloc::Global;
 
 /// The expression that the fact puts in another one, and that one; `None` where it puts none.
@@ -90,92 +93,50 @@ fn answer(ontology: &Ontology, question: Selection, fact: &StoredFact) -> Option
 }
 
 /// Marks the number, if it is one of those that have marks.
-pub(crate) fn mark(marks: &mut [bool], n: Option<usize>)
+pub(crate) fn mark(marks: &mut Row, n: Option<usize>)
     ensures long { length marks.new ≡ length marks.old }
     ensures exact { (m : ℕ) → m < length marks.old → IsMarked marks.new m ↔ (IsMarked marks.old m ⊎ (n ≡ Some m)) }
 {
     if let Some(n) = n {
-        if n < marks.len() {
-            marks[n] = true;
-        }
+        marks.put(n);
     }
 }
 
-/// Marks on the numbers that have one in both lists.
-pub(crate) fn both(alloc: Global, marks: &[bool], others: &[bool]) -> Result<Vec<bool>, Memory>
-    requires { length others.now ≡ length marks.now }
-    ensures long { IfOk result (λ v. length v.items ≡ length marks.now) }
-    ensures exact { IfOk result (λ v. (n : ℕ) → n < length marks.now → IsMarked v.items n ↔ (IsMarked marks.now n × IsMarked others.now n)) }
-{
-    let mut left = Vec::new(alloc);
-    for n in 0..marks.len() {
-        left.push(marks[n] && others[n])?;
-    }
-    Ok(left)
-}
-
-/// Marks on the numbers that have one in the first list and none in the second.
-pub(crate) fn apart(alloc: Global, marks: &[bool], others: &[bool]) -> Result<Vec<bool>, Memory>
-    requires { length others.now ≡ length marks.now }
-    ensures long { IfOk result (λ v. length v.items ≡ length marks.now) }
-    ensures exact { IfOk result (λ v. (n : ℕ) → n < length marks.now → IsMarked v.items n ↔ (IsMarked marks.now n × (IsMarked others.now n → ⊥))) }
-{
-    let mut left = Vec::new(alloc);
-    for n in 0..marks.len() {
-        left.push(marks[n] && !others[n])?;
-    }
-    Ok(left)
-}
-
-/// Whether there is a mark.
-pub(crate) fn has_mark(marks: &[bool]) -> bool
-    ensures { IsTrue result ↔ ((n : ℕ) × IsMarked marks.now n) }
-{
-    for mark in marks {
-        if *mark {
-            return true;
-        }
-    }
-    false
-}
-
-/// So many marks: on each number, or on those that a fact answers with.
+/// Of the marked numbers, marks on those that a fact answers with. Others may have marks, too.
 fn marked_by(
     alloc: Global,
     ontology: &Ontology,
     facts: &[StoredFact],
     question: Selection,
-    every: bool,
-    size: usize,
-) -> Result<Vec<bool>, Memory>
-    ensures { IfOk result (λ v. AreMarks (Answers ontology.now question) facts.now every size v.items) }
+    marks: &Row,
+) -> Result<Row, Memory>
+    ensures { IfOk result (λ found. AreGiven (Answers ontology.now question) facts.now marks.now found) }
 {
-    let mut marks = vec![in alloc; every; size]?;
+    let mut found = Row::new(alloc, marks.len())?;
     for fact in facts {
-        mark(&mut marks, answer(ontology, question, fact));
+        mark(&mut found, answer(ontology, question, fact));
     }
-    Ok(marks)
+    Ok(found)
 }
 
-/// So many marks: on each number, or on those that the facts of these numbers answer with, among which are all that may.
+/// The same, by the facts of these numbers, among which are all that may answer.
 fn marked_among(
     alloc: Global,
     ontology: &Ontology,
     facts: &[StoredFact],
     numbers: &[u32],
     question: Selection,
-    every: bool,
-    size: usize,
-) -> Result<Vec<bool>, Memory>
+    marks: &Row,
+) -> Result<Row, Memory>
     requires { AreNumbersOf (MayAnswer question) facts.now numbers.now }
-    ensures { IfOk result (λ v. AreMarks (Answers ontology.now question) facts.now every size v.items) }
+    ensures { IfOk result (λ found. AreGiven (Answers ontology.now question) facts.now marks.now found) }
 {
-    let mut marks = vec![in alloc; every; size]?;
+    let mut found = Row::new(alloc, marks.len())?;
     for number in numbers {
         let fact = &facts[*number as usize];
-        mark(&mut marks, answer(ontology, question, fact));
+        mark(&mut found, answer(ontology, question, fact));
     }
-    Ok(marks)
+    Ok(found)
 }
 
 /// The numbers of the facts that may answer the question, where they are found without going over all facts.
@@ -257,69 +218,25 @@ fn is_found(indexed: &Indexed<'_>, question: Selection, number: u32) -> bool
     }
 }
 
-/// Whether every number answers the question, or a fact answers it with this one.
-fn is_answer(indexed: &Indexed<'_>, question: Selection, every: bool, number: u32) -> bool
-    ensures { IsTrue result ↔ ((every ≡ true) ⊎ SomeFact indexed.now.saturation.state.facts (λ fact. Answers indexed.now.ontology question fact number)) }
+/// Whether the number is marked, and a fact answers the question with it.
+fn is_answer(indexed: &Indexed<'_>, question: Selection, marks: &Row, number: u32) -> bool
+    ensures { IsTrue result ↔ (IsMarked marks.now number × SomeFact indexed.now.saturation.state.facts (λ fact. Answers indexed.now.ontology question fact number)) }
 {
-    every || is_found(indexed, question, number)
+    marks.contains(number as usize) && is_found(indexed, question, number)
 }
 
-/// Marks on those of the marked numbers that a fact answers with, or on each of them.
-fn found_among(
-    indexed: &Indexed<'_>,
-    question: Selection,
-    every: bool,
-    marks: &[bool],
-) -> Result<Vec<bool>, Memory>
+/// Of the marked numbers, marks on those that a fact answers with. Each is looked for.
+fn found_among(indexed: &Indexed<'_>, question: Selection, marks: &Row) -> Result<Row, Memory>
     requires { length marks.now ≤ 2 ^ 32 }
-    ensures long { IfOk result (λ v. length v.items ≡ length marks.now) }
-    ensures exact { IfOk result (λ v. (n : ℕ) → n < length marks.now →
-        IsMarked v.items n ↔ (IsMarked marks.now n × ((every ≡ true) ⊎ SomeFact indexed.now.saturation.state.facts (λ fact. Answers indexed.now.ontology question fact n)))) }
+    ensures { IfOk result (λ found. AreGiven (Answers indexed.now.ontology question) indexed.now.saturation.state.facts marks.now found) }
 {
-    let closed = indexed.closed();
-    let alloc = closed.allocator();
-    let mut found = Vec::new(alloc);
+    let mut found = Row::new(indexed.closed().allocator(), marks.len())?;
     for n in 0..marks.len() {
-        found.push(marks[n] && is_answer(indexed, question, every, n as u32))?;
+        if is_answer(indexed, question, marks, n as u32) {
+            found.put(n);
+        }
     }
     Ok(found)
-}
-
-/// So many marks: on each number, or on those that a fact answers with.
-fn marks_found(
-    indexed: &Indexed<'_>,
-    question: Selection,
-    every: bool,
-    size: usize,
-) -> Result<Vec<bool>, Memory>
-    requires { size ≤ 2 ^ 32 }
-    ensures { IfOk result (λ v. AreMarks (Answers indexed.now.ontology question) indexed.now.saturation.state.facts every size v.items) }
-{
-    let closed = indexed.closed();
-    let alloc = closed.allocator();
-    let all = vec![in alloc; true; size]?;
-    found_among(indexed, question, every, &all)
-}
-
-/// Marks on those of the marked classes that answer which classes lie below the expression.
-///
-/// # Errors
-///
-/// `Memory` where memory was refused.
-pub(crate) fn below_among(
-    indexed: &Indexed<'_>,
-    expression: ExprId,
-    marks: &[bool],
-) -> Result<Vec<bool>, Memory>
-    requires long { length marks.now ≡ length indexed.now.ontology.names.classes }
-    ensures long { IfOk result (λ v. length v.items ≡ length marks.now) }
-    ensures exact { IfOk result (λ v. (n : ℕ) → IsMarked marks.now n →
-        IsMarked v.items n ↔ (IsEvery indexed.now.ontology indexed.now.saturation (asked.Below expression) ⊎ SomeFact indexed.now.saturation.state.facts (λ fact. Answers indexed.now.ontology (asked.Below expression) fact n))) }
-{
-    few_classes(indexed);
-    let question = Selection::Below(expression);
-    let every = is_every(indexed, question);
-    found_among(indexed, question, every, marks)
 }
 
 // ---- by what costs less
@@ -327,33 +244,71 @@ pub(crate) fn below_among(
 /// So many facts are gone over at the cost of looking for one, about.
 const FACTS_A_SEARCH: usize = 128;
 
-/// Whether looking for each of so many names costs less than going over all facts.
-pub(crate) fn are_few(closed: &Closed<'_>, names: usize) -> bool
-    ensures { IsTrue result → names ≤ 2 ^ 32 }
+/// Whether looking for each marked number costs less than going over all facts.
+fn are_few(closed: &Closed<'_>, marks: &Row) -> bool
+    ensures { IsTrue result → length marks.now ≤ 2 ^ 32 }
 {
-    names <= u32::MAX as usize && names < closed.facts().len() / FACTS_A_SEARCH
+    marks.len() <= u32::MAX as usize && marks.count() < closed.facts().len() / FACTS_A_SEARCH
 }
 
-/// Marks on the numbers that answer the question.
-///
-/// # Errors
-///
-/// `Memory` where memory was refused.
-pub(crate) fn marks_of(
-    indexed: &Indexed<'_>,
-    question: Selection,
-    size: usize,
-) -> Result<Vec<bool>, Memory>
-    ensures { IfOk result (λ v. AreAnswers indexed.now.ontology indexed.now.saturation question size v.items) }
+/// Of the marked numbers, marks on those that a fact answers with, by what costs less. Others may have marks, too.
+fn answers_among(indexed: &Indexed<'_>, question: Selection, marks: &Row) -> Result<Row, Memory>
+    ensures { IfOk result (λ found. AreGiven (Answers indexed.now.ontology question) indexed.now.saturation.state.facts marks.now found) }
 {
     let closed = indexed.closed();
     let ontology = closed.ontology();
     let alloc = closed.allocator();
-    let every = is_every(indexed, question);
     let facts = closed.facts();
     match asked_facts(indexed, question) {
-        Some(numbers) => marked_among(alloc, ontology, facts, numbers, question, every, size),
-        None if are_few(closed, size) => marks_found(indexed, question, every, size),
-        None => marked_by(alloc, ontology, facts, question, every, size),
+        Some(numbers) => marked_among(alloc, ontology, facts, numbers, question, marks),
+        None if are_few(closed, marks) => found_among(indexed, question, marks),
+        None => marked_by(alloc, ontology, facts, question, marks),
     }
+}
+
+/// Of the marked names, marks on those that answer the question. Others may have marks, too.
+///
+/// # Errors
+///
+/// `Memory` where memory was refused.
+pub(crate) fn marks_among(
+    indexed: &Indexed<'_>,
+    question: Selection,
+    marks: &Row,
+) -> Result<Row, Memory>
+    requires root { IsRoot indexed.now.ontology indexed.now.saturation.normal.asked (Expression (expression_asked question)) }
+    requires long { length marks.now ≡ length (names_asked indexed.now.ontology question) }
+    ensures { IfOk result (λ v. AreMarksAmong marks.now (names_asked indexed.now.ontology question) (FollowsFor indexed.now.ontology question) v) }
+{
+    let closed = indexed.closed();
+    closed.well_formed();
+    if is_every(indexed, question) {
+        return marks.copy(closed.allocator());
+    }
+    answers_among(indexed, question, marks)
+}
+
+/// How many names there are among which the answers are.
+fn count_asked(ontology: &Ontology, question: Selection) -> usize
+    ensures { result ≡ length (names_asked ontology.now question) }
+{
+    match question {
+        Selection::Above(_) | Selection::Below(_) => ontology.classes().len(),
+        Selection::Members(_) => ontology.individuals().len(),
+    }
+}
+
+/// Marks on the names that answer the question.
+///
+/// # Errors
+///
+/// `Memory` where memory was refused.
+pub(crate) fn marks_of(indexed: &Indexed<'_>, question: Selection) -> Result<Row, Memory>
+    requires root { IsRoot indexed.now.ontology indexed.now.saturation.normal.asked (Expression (expression_asked question)) }
+    ensures { IfOk result (λ v. AreMarksOf (names_asked indexed.now.ontology question) (FollowsFor indexed.now.ontology question) v) }
+{
+    let closed = indexed.closed();
+    let names = count_asked(closed.ontology(), question);
+    let all = Row::full(closed.allocator(), names)?;
+    marks_among(indexed, question, &all)
 }

@@ -5,18 +5,18 @@ ghost use Rattle.axioms.specs.WellFormedness.{AreDistinct};
 ghost use Rattle.std.specs.Prelude.{◌≡◌, ◌<◌, All, Contains, IfOk, length, map, string_bytes};
 
 use axioms::Memory;
+use number_sets::Row;
 use std::alloc::Global;
 
 /// The names that are marked, in the order of the names.
-fn marked<'a>(alloc: Global, names: &'a [String], marks: &[bool]) -> Result<Vec<&'a str>, Memory>
-    requires distinct { AreDistinct (map string_bytes names.now) }
-    requires long { length marks.now ≡ length names.now }
+fn marked<'a>(alloc: Global, names: &'a [String], marks: &Row) -> Result<Vec<&'a str>, Memory>
+    requires { AreDistinct (map string_bytes names.now) }
     ensures { IfOk result
         (λ v. AreMarkedBelow (length names.now) (map string_bytes names.now) marks.now (map (λ s. s.now) v.items)) }
 {
     let mut found = Vec::new(alloc);
     for (n, name) in names.iter().enumerate() {
-        if marks[n] {
+        if marks.contains(n) {
             found.push(name.as_str())?;
         }
     }
@@ -31,10 +31,9 @@ fn marked<'a>(alloc: Global, names: &'a [String], marks: &[bool]) -> Result<Vec<
 pub fn names_in_order<'a>(
     alloc: Global,
     names: &'a [String],
-    marks: &[bool],
+    marks: &Row,
 ) -> Result<Vec<&'a str>, Memory>
-    requires distinct { AreDistinct (map string_bytes names.now) }
-    requires long { length marks.now ≡ length names.now }
+    requires { AreDistinct (map string_bytes names.now) }
     ensures { IfOk result
         (λ v. AreThose (map string_bytes names.now) (HasMark (map string_bytes names.now) marks.now) (map (λ s. s.now) v.items)) }
 {

@@ -1,14 +1,13 @@
 //! Of classes above or below a class, those that are farther from it than others.
 ghost use Rattle.answers.specs.Names.{IsMarked};
-ghost use Rattle.answers.specs.Neighbours.{IsFarther, IsFartherOf, farther};
+ghost use Rattle.answers.specs.Neighbours.{IsFarther, IsFartherFrom, IsFartherOf, farther};
 ghost use Rattle.answers.specs.Selections.{IsOnly};
-ghost use Rattle.std.specs.Prelude.{◌<◌, ◌↔◌, ◌≡◌, ◌⊎◌, IfOk, length, true, ℕ};
-ghost use Rattle.taxonomy.specs.Relation.{is_listed};
+ghost use Rattle.std.specs.Prelude.{◌<◌, ◌↔◌, ◌≡◌, ◌⊎◌, IfOk, length, ℕ};
 
 use crate::lists_above::has;
 use crate::marks::mark;
 use axioms::Memory;
-use number_sets::PackedLists;
+use number_sets::{PackedLists, Row};
 use program::Side;
 use std::alloc::Global;
 
@@ -22,19 +21,17 @@ fn farther(side: Side, low: usize, high: usize) -> usize
     }
 }
 
-/// The farther one of the class and of one in its list, where that is marked and the class is not in its list.
+/// The farther one of two classes, where `high` is marked and has not `low` in its list.
 fn farther_of(
     lists: &PackedLists,
-    marks: &[bool],
+    marks: &Row,
     side: Side,
     low: usize,
     high: usize,
 ) -> Option<usize>
-    requires within { high < length marks.now }
-    requires listed { is_listed lists.now low high ≡ true }
     ensures { IsOnly (IsFartherOf lists.now marks.now side low high) result }
 {
-    if marks[high] && !has(lists, high, low) {
+    if marks.contains(high) && !has(lists, high, low) {
         Some(farther(side, low, high))
     } else {
         None
@@ -42,10 +39,9 @@ fn farther_of(
 }
 
 /// Marks the farther one of the class and of each in its list.
-fn mark_farther(lists: &PackedLists, marks: &[bool], side: Side, low: usize, far: &mut [bool])
-    requires { (d : ℕ) → is_listed lists.now low d ≡ true → d < length marks.now }
+fn mark_farther(lists: &PackedLists, marks: &Row, side: Side, low: usize, far: &mut Row)
     ensures long { length far.new ≡ length far.old }
-    ensures exact { (n : ℕ) → n < length far.old → IsMarked far.new n ↔ (IsMarked far.old n ⊎ ((high : ℕ) × IsFartherOf lists.now marks.now side low high n)) }
+    ensures exact { (n : ℕ) → n < length far.old → IsMarked far.new n ↔ (IsMarked far.old n ⊎ IsFartherFrom lists.now marks.now side low n) }
 {
     for high in lists.at(low) {
         mark(far, farther_of(lists, marks, side, low, *high as usize));
@@ -56,14 +52,13 @@ fn mark_farther(lists: &PackedLists, marks: &[bool], side: Side, low: usize, far
 pub(crate) fn far_marks(
     alloc: Global,
     lists: &PackedLists,
-    marks: &[bool],
+    marks: &Row,
     side: Side,
-) -> Result<Vec<bool>, Memory>
-    requires { (c d : ℕ) → is_listed lists.now c d ≡ true → d < length marks.now }
-    ensures long { IfOk result (λ v. length v.items ≡ length marks.now) }
-    ensures exact { IfOk result (λ v. (n : ℕ) → n < length marks.now → IsMarked v.items n ↔ IsFarther lists.now marks.now side n) }
+) -> Result<Row, Memory>
+    ensures long { IfOk result (λ far. length far ≡ length marks.now) }
+    ensures exact { IfOk result (λ far. (n : ℕ) → n < length marks.now → IsMarked far n ↔ IsFarther lists.now marks.now side n) }
 {
-    let mut far = vec![in alloc; false; marks.len()]?;
+    let mut far = Row::new(alloc, marks.len())?;
     for low in 0..lists.len() {
         mark_farther(lists, marks, side, low, &mut far);
     }

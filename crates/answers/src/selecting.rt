@@ -29,6 +29,6 @@ pub fn selected<'a>(
 {
     let closed = indexed.closed();
     closed.well_formed();
-    let marks = marks_of(indexed, selection, names.len())?;
+    let marks = marks_of(indexed, selection)?;
     names_in_order(closed.allocator(), names, &marks)
 }

@@ -1,17 +1,16 @@
+use Rattle.std.proofs.Common.{◌∙◌, sym}
+use Rattle.std.proofs.lemmas.Bool.{false≢true}
 use Rattle.std.proofs.lemmas.Result.{IfOk-weaker}
 use Rattle.answers.proofs.Listing.{marked_list, unmarked_list}
-use Rattle.answers.proofs.Naming.{marked_at, unmarked_at}
 use Rattle.answers.proofs.lists_above.list_of.Goals as goal
 
-pub returns-then-marks-class : goal.returns-then-marks-class
-returns-then-marks-class c =
-    let marks = c.args.marks.now in
-    let class = c.args.class in
+pub returns-then-contains : goal.returns-then-contains
+returns-then-contains c =
     IfOk-weaker c.classes_above.result _ _
-    (λ v is. marked_list c.args.indexed.now.ontology marks c.args.indexed.now.saturation.state.facts class (marked_at marks class _ c.requires.class c.if-marks-class.true) v.items is)
+    (λ v is. marked_list c.args.indexed.now.ontology c.args.marks.now c.args.indexed.now.saturation.state.facts c.args.class (sym c.contains.ensures ∙ c.if-contains.true) v.items is)
     c.classes_above.ensures
 
-pub returns-else-marks-class : goal.returns-else-marks-class
-returns-else-marks-class c =
-    let marks = c.args.marks.now in
-    unmarked_list c.args.indexed.now.ontology marks c.args.indexed.now.saturation.state.facts c.args.class (unmarked_at marks c.args.class _ c.requires.class c.if-marks-class.false) c.new.result.items c.new.ensures.items
+pub returns-else-contains : goal.returns-else-contains
+returns-else-contains c =
+    unmarked_list c.args.indexed.now.ontology c.args.marks.now c.args.indexed.now.saturation.state.facts c.args.class
+    (λ mark. false≢true (sym c.if-contains.false ∙ c.contains.ensures ∙ mark)) c.new.result.items c.new.ensures.items

@@ -15,5 +15,5 @@ returns c =
     let o = c.args.indexed.now.ontology in
     let marks = c.args.marks.now in
     let facts = c.args.indexed.now.saturation.state.facts in
-    let end : c.loop-class.class ≡ length marks = omega (arith, c.loop-class-test.false, c.loop-class.auto.class-end) in
+    let end : c.loop-class.class ≡ length marks = omega (arith, c.loop-class-test.false, c.loop-class.auto.class-end, c.len-class-end.ensures) in
     all_listed o marks facts (length o.names.classes) c.requires c.loop-class.lists (subst (λ (k : ℕ). AreFirstLists o marks facts k c.loop-class.lists) end c.loop-class.invariant)

@@ -1,28 +1,29 @@
-use Rattle.std.proofs.Common.{◌∙◌, sym, arith}
+use Rattle.std.proofs.Common.{ℕ, replicate, true, false, ap, sym, ◌∙◌, arith}
 use Rattle.std.proofs.lemmas.Bool.{false≢true}
-use Rattle.answers.proofs.Among.{no_marks, one_more_mark}
-use Rattle.answers.proofs.Naming.{marked_at, unmarked_at}
+use Rattle.std.proofs.lemmas.List.{length-set}
+use Rattle.answers.specs.Selections.{Answers}
+use Rattle.answers.proofs.MarkedFacts.{by_search, no_step, none_found, one_found}
 use Rattle.answers.proofs.marks.found_among.Goals as goal
-use Rattle.answers.proofs.marks.found_among.Goals.{then-marks-n, else-marks-n}
+use Rattle.answers.proofs.marks.found_among.Goals.{then-is_answer, else-is_answer}
 
 pub loop-n-init : goal.loop-n-init
-loop-n-init c = no_marks _ c.new-found.result.items c.new-found.ensures.items
+loop-n-init c = no_step _ _ _ (c.in_ok-found.ensures ∙ ap (λ (n : ℕ). replicate n false) c.len.ensures)
 
 pub loop-n-preserved : goal.loop-n-preserved
 loop-n-preserved c =
+    let gives = Answers c.args.indexed.now.ontology c.args.question in
+    let facts = c.args.indexed.now.saturation.state.facts in
     let marks = c.args.marks.now in
     let n = c.loop-n.n in
-    elim c.if-marks-n.branch [
-      | then-marks-n w ↦ one_more_mark _ n c.loop-n.found.items c.push.new.self.items c.if-marks-n.push c.loop-n.invariant c.in_ok-push.ensures.items
-          (λ t. (marked_at marks n _ c.loop-n-test.true w.if-marks-n.true, w.is_answer.ensures.0 (sym w.push-is ∙ t)), λ p. w.push-is ∙ w.is_answer.ensures.1 p.1)
-      | else-marks-n w ↦ one_more_mark _ n c.loop-n.found.items c.push.new.self.items c.if-marks-n.push c.loop-n.invariant c.in_ok-push.ensures.items
-          (λ t. absurd (false≢true (sym w.if-marks-n.false ∙ (sym w.push-is ∙ t))), λ p. absurd (unmarked_at marks n _ c.loop-n-test.true w.if-marks-n.false p.0))
+    let found = c.loop-n.found in
+    elim c.if-is_answer.branch [
+      | then-is_answer w ↦
+          let (mark, given) = c.is_answer.ensures.0 w.if-is_answer.true in
+          let is = w.found-is ∙ w.put.ensures.after in
+          one_found gives facts marks found n c.loop-n.invariant c.if-is_answer.found is mark given (rw is (length-set found n true))
+      | else-is_answer w ↦ rw w.found-is (none_found gives facts marks found n c.loop-n.invariant (λ mark given. false≢true (sym w.if-is_answer.false ∙ c.is_answer.ensures.1 (mark, given))))
     ]
 
-pub returns-clause-long : goal.returns-clause-long
-returns-clause-long c =
-    let long = c.loop-n.invariant.long in
-    omega (arith, long, c.loop-n-test.false, c.loop-n.auto.n-end)
-
-pub returns-clause-exact : goal.returns-clause-exact
-returns-clause-exact c = λ n low. c.loop-n.invariant.exact n (omega (arith, low, c.loop-n-test.false))
+pub returns : goal.returns
+returns c =
+    by_search (Answers c.args.indexed.now.ontology c.args.question) c.args.indexed.now.saturation.state.facts c.args.marks.now c.loop-n.found c.loop-n.n c.loop-n.invariant (omega (arith, c.loop-n-test.false, c.len-n-end.ensures))

@@ -1,9 +1,7 @@
-use Rattle.std.proofs.Common.{◌≡◌, ◌⊎◌, true}
-use Rattle.classification.specs.Lists.{SomeFact}
-use Rattle.answers.specs.Names.{IsMarked}
+use Rattle.std.proofs.Common.{length, replicate, false}
 use Rattle.answers.specs.Selections.{Answers}
-use Rattle.answers.proofs.Among.{AreMarksBelow}
+use Rattle.answers.proofs.MarkedFacts.{AreMarksAfter, IsFound}
 use Rattle.answers.proofs.marks.found_among.Given as goal
 
 abbrev pub invariant-loop-n : goal.invariant-loop-n
-invariant-loop-n l = AreMarksBelow (λ n. IsMarked l.marks n × ((l.every ≡ true) ⊎ SomeFact l.indexed.saturation.state.facts (λ fact. Answers l.indexed.ontology l.question fact n))) l.n l.found.items
+invariant-loop-n l = AreMarksAfter (IsFound (Answers l.indexed.ontology l.question) l.indexed.saturation.state.facts l.marks) (replicate (length l.marks) false) l.n l.found

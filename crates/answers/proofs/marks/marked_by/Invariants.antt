@@ -1,6 +1,7 @@
-use Rattle.std.proofs.Common.{take}
-use Rattle.answers.specs.Selections.{Answers, AreMarks}
+use Rattle.std.proofs.Common.{length, replicate, false}
+use Rattle.answers.specs.Selections.{Answers}
+use Rattle.answers.proofs.MarkedFacts.{AreMarksAfter, At}
 use Rattle.answers.proofs.marks.marked_by.Given as goal
 
 abbrev pub invariant-loop-fact : goal.invariant-loop-fact
-invariant-loop-fact l = AreMarks (Answers l.ontology l.question) (take l.fact-index l.facts) l.every l.size l.marks.items
+invariant-loop-fact l = AreMarksAfter (At l.facts (Answers l.ontology l.question)) (replicate (length l.marks) false) l.fact-index l.found

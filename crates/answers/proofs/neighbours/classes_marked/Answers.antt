@@ -1,5 +1,4 @@
-use Rattle.std.proofs.Common.{◌≡◌, ◌∙◌, IfOk, List, ap, length, map, sym, subst}
-use Rattle.std.specs.String.{string_bytes}
+use Rattle.std.proofs.Common.{◌∙◌, IfOk, List, ap, map, sym, subst}
 use Rattle.axioms.specs.Expression.{Iri}
 use Rattle.axioms.specs.Ontology.{Ontology}
 use Rattle.axioms.specs.WellFormedness.{AreDistinct}
@@ -7,16 +6,11 @@ use Rattle.answers.specs.Names.{AreThose, HasMark}
 use Rattle.answers.proofs.Lent.{same_ontology, whole_ontology}
 use Rattle.answers.proofs.neighbours.classes_marked.Goals as goal
 
-pub names_in_order-requires-clause-distinct : goal.names_in_order-requires-clause-distinct
-names_in_order-requires-clause-distinct c =
+pub names_in_order-requires : goal.names_in_order-requires
+names_in_order-requires c =
     let is = same_ontology c.ontology.ensures c.closed-closed.ensures in
     let w = whole_ontology c.closed-closed.ensures c.well_formed-2.ensures.ontology in
     subst AreDistinct (sym (c.classes.ensures.names ∙ ap (λ (o : Ontology). o.names.classes) is)) w.distinct_classes
-
-pub names_in_order-requires-clause-long : goal.names_in_order-requires-clause-long
-names_in_order-requires-clause-long c =
-    let is = same_ontology c.ontology.ensures c.closed-closed.ensures in
-    c.requires ∙ sym (c.classes.ensures.count ∙ ap (λ (o : Ontology). length o.names.classes) is)
 
 pub returns : goal.returns
 returns c =
