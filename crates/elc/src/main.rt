@@ -17,7 +17,7 @@ fn main(rt: HostRuntime) -> ExitCode {
         rt.alloc(),
         words(&rt),
         RandomState::new(&rt),
-        &mut SystemFiles::new(&rt),
+        &mut SystemFiles::new(&rt, rt.stdin()),
         &mut WriterSink::new(rt.stdout()),
         &mut WriterSink::new(rt.stderr()),
     )

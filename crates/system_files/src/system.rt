@@ -1,28 +1,45 @@
 //! The files of the system.
-ghost use Rattle.std.specs.Prelude.{◌≡◌, ◌≤◌, IfOk, length, string_bytes};
+ghost use Rattle.std.specs.Prelude.{◌≡◌, ◌≤◌, ◌↔◌, IfOk, IsSome, length, string_bytes};
+ghost use Rattle.system_files.specs.declared.system.TheConstants.{INPUT};
 
 use crate::files::Files;
 use device::{Failed, Memory, ReaderSource, Sink};
-use std::io::{Read, Write};
+use std::io::{Read, Stdin, Write};
 use std::{fs, io, rt};
 
-/// The files of the system, by the runtime.
+/// The path of standard input.
+const INPUT: &str = "/dev/stdin";
+
+/// The files of the system, by the runtime. What is read at the path `/dev/stdin` is the standard input that the process has, be it a
+/// file, a pipe, a terminal or a socket: it is not opened.
 #[derive(Drop)]
 pub struct SystemFiles<'r, R: rt::Files + AllocGlobal> {
     runtime: &'r R,
+    input: Stdin,
     failed_writes: u64,
 }
 
 impl<'r, R: rt::Files + AllocGlobal> SystemFiles<'r, R> {
-    ghost use Rattle.std.specs.Prelude.{◌≡◌};
-
-    /// The files that this runtime reaches. What lies in them is the system's, and nothing is promised of it.
-    pub fn new(runtime: &'r R) -> Self
-        ensures { result.runtime.now ≡ runtime.now }
+    /// The files that this runtime reaches, and this standard input. What lies in them is the system's, and nothing is promised of it.
+    pub fn new(runtime: &'r R, input: Stdin) -> Self
+        ensures runtime { result.runtime.now ≡ runtime.now }
+        ensures unfailed { result.failed_writes ≡ 0 }
     {
         SystemFiles {
             runtime,
+            input,
             failed_writes: 0,
+        }
+    }
+
+    /// Standard input, where that is the path's.
+    fn input_at(&self, path: &str) -> Option<Stdin>
+        ensures { IsSome result ↔ (path.now ≡ INPUT.now) }
+    {
+        if path == INPUT {
+            Some(self.input)
+        } else {
+            None
         }
     }
 
@@ -65,6 +82,7 @@ impl<'r, R: rt::Files + AllocGlobal> Files for SystemFiles<'r, R> {
         let file = FileReader {
             runtime: self.runtime,
             path: self.owned(path)?,
+            input: self.input_at(path),
             file: None,
         };
         Ok(ReaderSource::new(file))
@@ -85,16 +103,20 @@ impl<'r, R: rt::Files + AllocGlobal> Files for SystemFiles<'r, R> {
     }
 }
 
-/// A reader of the file at a path, which is opened at the first read.
+/// A reader of the file at a path, which is opened at the first read; or of standard input, which is open.
 #[derive(Drop)]
 pub struct FileReader<'r, R: rt::Files> {
     runtime: &'r R,
     path: String,
+    input: Option<Stdin>,
     file: Option<R::File>,
 }
 
 impl<'r, R: rt::Files> Read for FileReader<'r, R> {
     fn read(&mut self, buffer: &mut [u8]) -> io::Result<usize> {
+        if let Some(input) = &mut self.input {
+            return input.read(buffer);
+        }
         if let Some(file) = &mut self.file {
             return file.read(buffer);
         }
