@@ -14,8 +14,8 @@ use Rattle.session.specs.Sessions.{Opened}
 use Rattle.session.specs.WrittenTexts.{Sinks, Texts, AreWritten, AreWrittenUntil, all_seen}
 use Rattle.session.specs.declared.fault.AskFault.{AskFault}
 use Rattle.session.specs.declared.fault.AskFault.TheVariants as asking
-use Rattle.session.specs.declared.fault.TextFault.{TextFault}
-use Rattle.session.specs.declared.fault.TextFault.TheVariants as writing
+use Rattle.session.specs.declared.fault.WritingFault.{WritingFault}
+use Rattle.session.specs.declared.fault.WritingFault.TheVariants as writing
 
 -- ---- questions
 
@@ -45,21 +45,21 @@ pub record IsMade (s : Opened) (format : Format) (summary : Summary) (texts : Te
   pub written : IsWrittenIn s.ontology format texts.certificate
 
 -- what a fault says of the session where no text is made: facts are pending, or memory was refused
-abbrev pub IsUnmade : Opened → TextFault → Type 0
+abbrev pub IsUnmade : Opened → WritingFault → Type 0
 IsUnmade s writing.Unfinished = ¬ IsFinished s.saturation
 IsUnmade s writing.Memory = IsFinished s.saturation
 IsUnmade s (writing.Io n) = ⊥
 
 -- what a fault says of the session and of what was written: nothing, or the texts until the sink that is told, by its number from 1
-abbrev pub IsTextFault : Opened → Format → (old new : Sinks) → TextFault → Type 0
+abbrev pub IsTextFault : Opened → Format → (old new : Sinks) → WritingFault → Type 0
 IsTextFault s format old new (writing.Io n) = (1 ≤ n) × (n ≤ 3) × ((summary : Summary) × (texts : Texts) × IsMade s format summary texts × AreWrittenUntil n old new texts)
 IsTextFault s format old new fault = IsUnmade s fault × (new ≡ old)
 
 -- what an answer says of the session and of what was written
-abbrev pub IsWritten : Opened → Format → (old new : Sinks) → Result Summary TextFault → Type 0
+abbrev pub IsWritten : Opened → Format → (old new : Sinks) → Result Summary WritingFault → Type 0
 IsWritten s format old new (Ok summary) = (texts : Texts) × IsMade s format summary texts × AreWritten old new texts
 IsWritten s format old new (Err fault) = IsTextFault s format old new fault
 
 -- what an answer says of the session, and of the three sinks before and after a call
-abbrev pub Writes : {T I C : Type 0} → Ghosts T → Ghosts I → Ghosts C → Opened → Format → (old new : T × I × C) → Result Summary TextFault → Type 0
+abbrev pub Writes : {T I C : Type 0} → Ghosts T → Ghosts I → Ghosts C → Opened → Format → (old new : T × I × C) → Result Summary WritingFault → Type 0
 Writes T I C s format old new answer = IsWritten s format (all_seen T I C old) (all_seen T I C new) answer

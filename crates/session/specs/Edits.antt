@@ -33,7 +33,7 @@ use Rattle.session.specs.Queries.{IsQueryAnswer, IsQueryRefusal, NamesFound}
 use Rattle.session.specs.Sessions.{IsOpen, IsSession, KeepsText, Opened, as_read}
 use Rattle.session.specs.WrittenTexts.{Sinks, Texts}
 use Rattle.session.specs.declared.fault.AskFault.{AskFault}
-use Rattle.session.specs.declared.fault.TextFault.{TextFault}
+use Rattle.session.specs.declared.fault.WritingFault.{WritingFault}
 use Rattle.session.specs.declared.query_fault.QueryFault.{QueryFault}
 use Rattle.shapes.specs.Faults.{axiom_faults, document_faults}
 
@@ -53,7 +53,7 @@ pub data Reply : Type 0 where
   Resumed : Result (Unit {0}) Stop → Reply
   Answered : Result Answer AskFault → Reply
   Found : Result NamesFound QueryFault → Reply
-  Written : (after : Sinks) → Result Summary TextFault → Reply
+  Written : (after : Sinks) → Result Summary WritingFault → Reply
 
 -- what the contract of the call says of the session before and after it, and of the answer; others are not given
 abbrev pub IsCall : (old : Opened) → Call → Reply → (new : Opened) → Type 0

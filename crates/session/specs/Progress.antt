@@ -1,7 +1,8 @@
 -- Progress that is told, a line for each stage.
-use Rattle.std.specs.Prelude.{◌≡◌, ◌⊎◌, ◌++◌, ℕ, List, [], ◌∷◌, Bool, true, false, codes}
+use Rattle.std.specs.Prelude.{◌≡◌, ◌⊎◌, ◌-◌, ◌++◌, ℕ, List, [], ◌∷◌, Bool, true, false, codes, length}
 use Rattle.std.specs.Fmt.{decimal}
 use Rattle.session.specs.Devices.{Device, FailsIn, Takes}
+use Rattle.session.specs.Sessions.{Opened}
 use Rattle.session.specs.declared.progress.Stage.{Stage}
 use Rattle.session.specs.declared.progress.Stage.TheVariants.{Drawn, Made, Read, TextsRead, Written}
 
@@ -31,3 +32,11 @@ AreStagesTold (stage ∷ stages) old new = (mid : Device) × IsStageTold true st
 abbrev pub IsProgress : (told : Bool) → (old new : Device) → Type 0
 IsProgress false old new = new ≡ old
 IsProgress true old new = (stages : List Stage) × AreStagesTold stages old new
+
+-- what was read of a session's document, and of what was added
+abbrev pub opened_stage : Opened → Stage
+opened_stage s = Read s.bytes (length s.ontology.axioms)
+
+-- how many facts a session has, and how many of these are pending
+abbrev pub drawn_stage : Opened → Stage
+drawn_stage s = Drawn (length s.saturation.state.facts) (length s.saturation.state.facts - length s.saturation.state.served)

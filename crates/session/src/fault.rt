@@ -18,7 +18,7 @@ pub enum AskFault<'n> {
 
 /// Why the texts of a session are not written.
 #[derive(Clone, Copy, Debug, PartialEq, Eq, Error)]
-pub enum TextFault {
+pub enum WritingFault {
     /// Facts are pending: no `resume` ended with `Ok`. Nothing is written.
     #[error("facts are pending")]
     Unfinished,

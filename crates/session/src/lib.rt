@@ -30,7 +30,7 @@ pub use classification::Summary;
 pub use classifying::classification_of;
 pub use edits::any_edits;
 pub use engine::Stop;
-pub use fault::{AskFault, TextFault};
+pub use fault::{AskFault, WritingFault};
 pub use interpretation_spec::Interpretation;
 pub use opening::tell_opened;
 pub use profile::{DocumentFault, Limits, Version};

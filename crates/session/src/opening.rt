@@ -2,7 +2,7 @@
 ghost use Rattle.engine.specs.Saturations.{IsFinished};
 ghost use Rattle.profile.specs.declared.fault.DocumentFault.TheVariants as reading;
 ghost use Rattle.session.specs.Devices.{seen};
-ghost use Rattle.session.specs.Progress.{IsProgress};
+ghost use Rattle.session.specs.Progress.{IsProgress, IsStageTold, opened_stage};
 ghost use Rattle.session.specs.Run.{IsRunFault, IsRunRead};
 ghost use Rattle.session.specs.Sessions.{as_read};
 ghost use Rattle.session.specs.TextAnswers.{IsRunAs};
@@ -22,7 +22,8 @@ use std::hash::RandomState;
 
 /// Tells what was read, where progress is told.
 pub fn tell_opened<W: Sink>(session: &Session, told: bool, sink: &mut W)
-    ensures { IsProgress told (seen W.Sink sink.old) (seen W.Sink sink.new) }
+    ensures line { IsStageTold told (opened_stage session.now) (seen W.Sink sink.old) (seen W.Sink sink.new) }
+    ensures progress { IsProgress told (seen W.Sink sink.old) (seen W.Sink sink.new) }
 {
     let bytes = session.bytes();
     let axioms = session.ontology().axioms().len();

@@ -2,7 +2,7 @@
 ghost use Rattle.engine.specs.Saturations.{IsFinished, Saturates};
 ghost use Rattle.inference.specs.declared.known_facts.Stop.TheVariants as stops;
 ghost use Rattle.session.specs.Devices.{seen};
-ghost use Rattle.session.specs.Progress.{IsProgress};
+ghost use Rattle.session.specs.Progress.{IsProgress, IsStageTold, drawn_stage};
 ghost use Rattle.session.specs.Sessions.{KeepsText};
 ghost use Rattle.std.specs.Prelude.{◌≡◌, ◌≤◌, ◌↔◌, Err, IsTrue, OnOk, length};
 
@@ -29,7 +29,8 @@ fn first_end(told: bool, facts: usize, max_facts: u32) -> u32
 
 /// Tells how many facts there are, and how many are pending, where progress is told.
 pub fn tell_drawn<W: Sink>(session: &Session, told: bool, sink: &mut W)
-    ensures { IsProgress told (seen W.Sink sink.old) (seen W.Sink sink.new) }
+    ensures line { IsStageTold told (drawn_stage session.now) (seen W.Sink sink.old) (seen W.Sink sink.new) }
+    ensures progress { IsProgress told (seen W.Sink sink.old) (seen W.Sink sink.new) }
 {
     let facts = session.facts();
     let pending = facts.saturating_sub(session.served());

@@ -3,7 +3,7 @@ ghost use Rattle.session.specs.Answers.{IsMade, IsUnmade, Writes};
 ghost use Rattle.session.specs.WrittenTexts.{KeepPaths, texts_of};
 ghost use Rattle.std.specs.Prelude.{IfErr, IfOk};
 
-use crate::fault::TextFault;
+use crate::fault::WritingFault;
 use crate::session::Session;
 use crate::writing::write_texts;
 use certificate::Format;
@@ -12,16 +12,16 @@ use device::Sink;
 
 impl Session {
     /// The three texts, with a certificate in the format, and the counts.
-    fn made(&self, format: Format) -> Result<Classification, TextFault>
+    fn made(&self, format: Format) -> Result<Classification, WritingFault>
         ensures made { IfOk result (λ c. IsMade self.now format c.summary (texts_of c)) }
         ensures unmade { IfErr result (IsUnmade self.now) }
     {
         let Some(indexed) = self.indexed() else {
-            return Err(TextFault::Unfinished);
+            return Err(WritingFault::Unfinished);
         };
         match classified(indexed.closed(), format) {
             Ok(made) => Ok(made),
-            Err(_) => Err(TextFault::Memory),
+            Err(_) => Err(WritingFault::Memory),
         }
     }
 
@@ -38,7 +38,7 @@ impl Session {
         instances: &mut I,
         certificate: &mut C,
         format: Format,
-    ) -> Result<Summary, TextFault>
+    ) -> Result<Summary, WritingFault>
         // What the answer says of the session, and what each sink has taken; a sink is named only where it failed.
         ensures written { Writes T.Sink I.Sink C.Sink self.now format
             (taxonomy.old, instances.old, certificate.old) (taxonomy.new, instances.new, certificate.new) result }
@@ -50,7 +50,7 @@ impl Session {
         };
         match write_texts(&made, taxonomy, instances, certificate) {
             Ok(()) => Ok(made.summary),
-            Err(number) => Err(TextFault::Io(number)),
+            Err(number) => Err(WritingFault::Io(number)),
         }
     }
 }

@@ -12,10 +12,10 @@ returns-in-Ok-resumed-clause-run g c =
     runs_as c.args.limits.now _ c.in-Ok.session s c.in-Ok.ensures.opened c.in-Ok.ensures.version c.in-Ok.ensures.taken done.ontology done.others few
 
 pub returns-in-Ok-resumed-clause-progress : goal.returns-in-Ok-resumed-clause-progress
-returns-in-Ok-resumed-clause-progress g c = progress_behind c.args.told _ _ _ c.tell_opened.ensures c.resume_slices-resumed.ensures.progress
+returns-in-Ok-resumed-clause-progress g c = progress_behind c.args.told _ _ _ c.tell_opened.ensures.progress c.resume_slices-resumed.ensures.progress
 
 pub returns-in-Err-Limit-clause-progress : goal.returns-in-Err-Limit-clause-progress
-returns-in-Err-Limit-clause-progress g c = progress_behind c.args.told _ _ _ c.tell_opened.ensures c.resume_slices-resumed.ensures.progress
+returns-in-Err-Limit-clause-progress g c = progress_behind c.args.told _ _ _ c.tell_opened.ensures.progress c.resume_slices-resumed.ensures.progress
 
 pub returns-in-Err-Memory-clause-progress : goal.returns-in-Err-Memory-clause-progress
-returns-in-Err-Memory-clause-progress g c = progress_behind c.args.told _ _ _ c.tell_opened.ensures c.resume_slices-resumed.ensures.progress
+returns-in-Err-Memory-clause-progress g c = progress_behind c.args.told _ _ _ c.tell_opened.ensures.progress c.resume_slices-resumed.ensures.progress

@@ -3,7 +3,7 @@ use Rattle.session.proofs.Told.{progress_behind}
 use Rattle.session.proofs.slices.resume_slices.Goals as goal
 
 pub returns-then-end-max_facts-clause-progress : goal.returns-then-end-max_facts-clause-progress
-returns-then-end-max_facts-clause-progress g c = progress_behind c.args.told _ _ _ c.loop-end.invariant.progress c.tell_drawn.ensures
+returns-then-end-max_facts-clause-progress g c = progress_behind c.args.told _ _ _ c.loop-end.invariant.progress c.tell_drawn.ensures.progress
 
 pub loop-end-preserved : goal.loop-end-preserved
 loop-end-preserved g c =
@@ -18,5 +18,5 @@ loop-end-preserved g c =
         version = second.version ∙ first.version;
       };
       within = search rules;
-      progress = progress_behind c.args.told _ _ _ c.loop-end.invariant.progress c.tell_drawn.ensures;
+      progress = progress_behind c.args.told _ _ _ c.loop-end.invariant.progress c.tell_drawn.ensures.progress;
     }
