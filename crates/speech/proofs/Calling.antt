@@ -1,24 +1,25 @@
 -- Calls of a session, and what is told of them.
-use Rattle.std.proofs.Common.{◌≡◌, ◌∙◌, ◌⊎◌, [], ap, sym, ℕ, List, Result, Ok, Err, refl, subst, inl, inr, ⊎_elim, IfOk, IfErr, OnOk}
-use Rattle.std.specs.Global.{Vec}
+use Rattle.std.proofs.Common.{◌≡◌, ◌∙◌, ◌⊎◌, [], ap, arith, sym, ℕ, List, Result, Ok, Err, refl, subst, inl, inr, ⊎_elim, IfOk, IfErr, OnOk}
 use Rattle.std.specs.Str.{IsUtf8, IsValidUpTo}
 use Rattle.answers.specs.Questions.{IsAnswerTo, names_in}
 use Rattle.answers.specs.declared.answer.Answer.{Answer}
 use Rattle.axioms.specs.Ontology.{Ontology}
 use Rattle.profile.specs.declared.fault.DocumentFault.TheVariants.{NotUtf8}
+use Rattle.inference.specs.declared.known_facts.Stop.{Stop}
+use Rattle.inference.specs.declared.known_facts.Stop.TheVariants as stops
 use Rattle.program.specs.declared.limits.Limits.{Limits}
 use Rattle.program.specs.declared.question.Question.{Question}
 use Rattle.program.specs.declared.status.Status.{Status}
 use Rattle.session.specs.Answers.{IsAskRefusal, IsQuestioned}
 use Rattle.session.specs.Edits as edits
-use Rattle.session.specs.Edits.{Answered, Ask, Call, Found, IsCall, Query, added}
+use Rattle.session.specs.Edits.{Answered, Ask, Call, Found, IsCall, Query, Resume, Resumed, added}
 use Rattle.session.specs.Queries.{IsQueryAnswer, IsQueryRefusal, names_in as names_found}
 use Rattle.session.specs.Sessions.{Opened}
 use Rattle.session.specs.declared.fault.AskFault.{AskFault}
 use Rattle.session.specs.declared.query_fault.QueryFault.{QueryFault}
 use Rattle.session.specs.declared.querying.Answers.{Answers}
 use Rattle.session.specs.declared.question_fault.QuestionFault.TheVariants as faults
-use Rattle.speech.specs.Answers.{IsAnswerTold, IsAnsweredTold, IsCalled, IsFaultTold, IsSaid, IsTextCalled, Tells, found}
+use Rattle.speech.specs.Answers.{IsAnswerTold, IsAnsweredTold, IsCalled, IsFaultTold, IsRunTo, IsRunTold, IsSaid, IsTextCalled, Tells, found}
 use Rattle.speech.specs.Replies.{Told, out_of_memory, told, told_by}
 use Rattle.speech.specs.declared.reply.Reply.{Reply}
 
@@ -38,6 +39,23 @@ called_ok limits call old new answer t h tells = record { reply = answer; called
 
 pub said : {X : Type 0} (P : Told → Type 0) (s : Opened) (r : Result Reply X) → Tells P r → IsSaid P s (told_by r) s
 said P s r tells = (refl, told_or P r tells)
+
+-- a run to so many facts, and what is told of it
+pub run_to : (limits : Limits) (end : ℕ) (old new : Opened) (result : Result (Unit {0}) Stop) (t : Told) → IsCall old (Resume end) (Resumed result) new
+    → IsRunTold limits end new result t ⊎ (t ≡ out_of_memory) → IsRunTo limits end old t new
+run_to limits end old new result t h tells = record { result = result; called = h; answer = tells }
+
+told_at_limit : (limits : Limits) (s : Opened) (result : Result (Unit {0}) Stop) (t : Told) → IsRunTold limits limits.max_facts s result t ⊎ (t ≡ out_of_memory)
+    → IsAnswerTold limits (Resume limits.max_facts) s (Resumed result) t ⊎ ((added (Resume limits.max_facts) (Resumed result) ≡ []) × (t ≡ out_of_memory))
+told_at_limit limits s (Ok made) t (inl h) = inl h
+told_at_limit limits s (Err stops.Limit) t (inl (inl (same, h))) = inl h
+told_at_limit limits s (Err stops.Limit) t (inl (inr (below, h))) = absurd (omega (arith, below))
+told_at_limit limits s (Err stops.Memory) t (inl h) = inl h
+told_at_limit limits s result t (inr none) = inr (refl, none)
+
+-- one to the limit is a call that is told as others are
+pub run_called : (limits : Limits) (old new : Opened) (t : Told) → IsRunTo limits limits.max_facts old t new → IsCalled limits (Resume limits.max_facts) old t new
+run_called limits old new t h = record { reply = Resumed h.result; called = h.called; answer = told_at_limit limits new h.result t h.answer }
 
 -- a question, and its answer
 pub ask_call : (s : Opened) (question : Question) (r : Result Answer AskFault) → IfOk r (IsAnswerTo s.ontology question) → OnOk r (IsQuestioned s (names_in question))

@@ -16,7 +16,7 @@ use Rattle.source_lines.specs.Sources.{Gives, IsReadOn, SourceState}
 use Rattle.source_lines.specs.declared.fault.StreamFault.{StreamFault}
 use Rattle.source_lines.specs.declared.fault.StreamFault.TheVariants.{Io, Memory}
 use Rattle.speech.specs.Conversations.{Comes, ComesPayload, HasEnded, IsLast, LacksLine, LacksPayload}
-use Rattle.speech.specs.Turns.{told_as}
+use Rattle.speech.specs.Turns.{IsPassed, told_as}
 use Rattle.speech.specs.declared.input_fault.InputFault.TheVariants as faults
 
 gives_more : (a b c : SourceState) (xs ys : List ℕ) → Gives a b xs → Gives b c ys → Gives a c (xs ++ ys)
@@ -192,3 +192,63 @@ cut_payload size a old new s t u payload h low k empty =
 -- the source ended in a line
 pub cut_line : (old new : AtHand) (s t : SourceState) → Advances old new s t → ((front : List ℕ) → new.line ≡ front ++ (10 ∷ []) → ⊥) → (new.line ≡ [] → ⊥) → LacksLine faults.Cut old.ahead s t
 cut_line old new s t h feedless some = let last = last_line old new s t h feedless in (new.line, last.0, last.1, some)
+
+-- ---- a payload that is passed over, line by line
+
+-- some of so many bytes came, and this many are to come
+pub record IsPassing (size left : ℕ) (old new : List ℕ) (before after : SourceState) : Type 0 where
+  pub passed : List ℕ
+  pub comes : Comes old new before after passed
+  pub long : length passed + left ≡ size
+
+pub none_passed : (size : ℕ) (ahead : List ℕ) (s : SourceState) → IsPassing size size ahead ahead s s
+none_passed size ahead s = record { passed = []; comes = comes_none ahead s; long = omega arith }
+
+-- one line more
+pub passing_more : (size left rest : ℕ) (a : List ℕ) (old new : AtHand) (s t u : SourceState) → IsPassing size left a old.ahead s t → Advances old new t u → left ≡ rest + length new.line
+    → IsPassing size rest a new.ahead s u
+passing_more size left rest a old new s t u h k fewer = record {
+  passed = h.passed ++ new.line;
+  comes = comes_more a old.ahead new.ahead s t u h.passed new.line h.comes (hand_comes old new t u k);
+  long = omega (arith, h.long, fewer, length-append h.passed new.line);
+}
+
+-- the last line ends behind the bytes, with the line feed
+pub passed_whole : (size left : ℕ) (a : List ℕ) (old new : AtHand) (s t u : SourceState) (front : List ℕ) → IsPassing size left a old.ahead s t → Advances old new t u → new.line ≡ front ++ (10 ∷ []) → length front ≡ left
+    → IsPassed size a new.ahead s u
+passed_whole size left a old new s t u front h k ended long =
+    let all = comes_more a old.ahead new.ahead s t u h.passed new.line h.comes (hand_comes old new t u k) in
+    let same : h.passed ++ new.line ≡ (h.passed ++ front) ++ (10 ∷ []) = ap (λ l. h.passed ++ l) ended ∙ sym (append_assoc h.passed front (10 ∷ [])) in
+    (h.passed ++ front, record { comes = subst (λ (l : List ℕ). Comes a new.ahead s u l) same all; long = omega (arith, h.long, long, length-append h.passed front) })
+
+line_part : (size : ℕ) (hand : AtHand) (s : SourceState) → IsReady hand s → IsPart size hand.line
+line_part size hand s ready = record { last = feed_by hand.line size (whole_or_none hand s ready) }
+
+-- it reaches behind them, and no line feed stands there
+lacks_feed : (size left : ℕ) (a : List ℕ) (old new : AtHand) (s t u : SourceState) (h : IsPassing size left a old.ahead s t) → Advances old new t u → left < length new.line
+    → (HasEnded (size - length h.passed) new.line → ⊥) → LacksPayload faults.LineFeed size a s u
+lacks_feed size left a old new s t u h k more none = (
+  h.passed ++ new.line,
+  new.ahead,
+  comes_more a old.ahead new.ahead s t u h.passed new.line h.comes (hand_comes old new t u k),
+  omega (arith, h.long, more, length-append h.passed new.line),
+  λ e. none (get_behind h.passed new.line size 10 (omega (arith, h.long)) e),
+)
+
+pub passed_feedless : (size left : ℕ) (a : List ℕ) (old new : AtHand) (s t u : SourceState) → IsPassing size left a old.ahead s t → Advances old new t u → left < length new.line
+    → ((front : List ℕ) → new.line ≡ front ++ (10 ∷ []) → ⊥) → LacksPayload faults.LineFeed size a s u
+passed_feedless size left a old new s t u h k more none =
+    lacks_feed size left a old new s t u h k more (feedless (size - length h.passed) new.line (line_part (size - length h.passed) new u k.ready) none)
+
+pub passed_elsewhere : (size left : ℕ) (a : List ℕ) (old new : AtHand) (s t u : SourceState) (front : List ℕ) → IsPassing size left a old.ahead s t → Advances old new t u → left < length new.line
+    → new.line ≡ front ++ (10 ∷ []) → (length front ≡ left → ⊥) → LacksPayload faults.LineFeed size a s u
+passed_elsewhere size left a old new s t u front h k more ended other =
+    lacks_feed size left a old new s t u h k more
+    (elsewhere (size - length h.passed) new.line front (line_part (size - length h.passed) new u k.ready) ended (λ e. other (omega (arith, h.long, e))))
+
+-- no line, or the source ended
+pub lacks_passing : (fault : StreamFault) (size left : ℕ) (a : List ℕ) (hand : AtHand) (s t u : SourceState) → IsPassing size left a hand.ahead s t → IsNoLine fault hand t u → LacksPayload (told_as fault) size a s u
+lacks_passing fault size left a hand s t u h k = lacks_payload fault size a hand s t u h.passed h.comes (omega (arith, h.long)) k
+
+pub cut_passing : (size left : ℕ) (a : List ℕ) (old new : AtHand) (s t u : SourceState) → IsPassing size left a old.ahead s t → Advances old new t u → new.line ≡ [] → LacksPayload faults.Cut size a s u
+cut_passing size left a old new s t u h k empty = cut_payload size a old new s t u h.passed h.comes (omega (arith, h.long)) k empty

@@ -52,8 +52,8 @@ pub unwritten_by : {V : Type 0} (G : Ghosts V) (b c : Point V) → IsOneTurn G b
 unwritten_by {V} G b c k = inl (k.exchange, k.turn, k.written)
 
 -- a refusal, with what the sink has when it is told
-told_down : {V : Type 0} (G : Ghosts V) (b c : Point V) (fault : InputFault) (e : Device) → IsTurnedDown G b fault c → IsTurnedDown G b fault (point c.service c.ahead c.source e)
-told_down {V} G b c fault e h = record { refused = h.refused; stays = h.stays }
+told_down : {V : Type 0} (b c : Point V) (fault : InputFault) (e : Device) → IsTurnedDown b fault c → IsTurnedDown b fault (point c.service c.ahead c.source e)
+told_down {V} b c fault e h = record { refused = h.refused; stays = h.stays }
 
 pub refused_by : {V : Type 0} (G : Ghosts V) (b c : Point V) (fault : InputFault) (ending : Ending) (e : Device) → IsNext G b c (Some (endings.Refused fault)) → IsRefusalTold fault c.sink e ending
     → IsLastTurn G b ending (point c.service c.ahead c.source e)
@@ -61,7 +61,7 @@ refused_by {V} G b c fault endings.End e h told = absurd told
 refused_by {V} G b c fault (endings.Refused other) e (down, same) told =
     let P : Device → Type 0 = λ d. Takes d e (reply_text (told_of fault)) in
     let R : InputFault → Type 0 = λ x. IsLastTurn G b (endings.Refused x) (point c.service c.ahead c.source e) in
-    subst R (sym told.0) (told_down G b c fault e down, subst P same told.1)
+    subst R (sym told.0) (told_down b c fault e down, subst P same told.1)
 refused_by {V} G b c fault endings.Unwritten e (down, same) told =
     let P : Device → Type 0 = λ d. FailsIn d e (reply_text (told_of fault)) in
-    inr (fault, told_down G b c fault e down, subst P same told)
+    inr (fault, told_down b c fault e down, subst P same told)

@@ -1,6 +1,8 @@
 -- Exchanges as calls of a session.
 use Rattle.std.proofs.Common.{◌≡◌, ◌⊎◌, ◌++◌, ◌∷◌, [], ℕ, List, Option, Some, None, Ok, Err, inl, inr, refl, sym, ap, ap₂, ◌∙◌, subst}
 use Rattle.program.specs.declared.limits.Limits.{Limits}
+use Rattle.program.specs.declared.question.Question.TheVariants.{Names}
+use Rattle.program.specs.declared.question.Related.TheVariants.{Equivalents}
 use Rattle.program.specs.declared.status.Status.{Status}
 use Rattle.program.specs.declared.status.Status.TheVariants as statuses
 use Rattle.program.specs.declared.version.Version.{Version}
@@ -13,13 +15,13 @@ use Rattle.session.specs.Edits as calls
 use Rattle.session.specs.Edits.{Call, Reply, Add, Added, Resumed, Answered, Found, Written, AreCalls, IsCall, IsOneDocument, IsSessionOver, added}
 use Rattle.session.specs.Sessions.{IsSession, Opened}
 use Rattle.session.specs.declared.question_fault.QuestionFault.TheVariants as faults
-use Rattle.speech.specs.Answers.{IsAnswerTold, IsFaultTold, IsStep, session_service}
+use Rattle.speech.specs.Answers.{IsAnswerTold, IsFaultTold, IsStep, run_end, session_service}
 use Rattle.source_lines.specs.Sources.{SourceState}
 use Rattle.speech.specs.Conversations.{AreExchanges, Exchange, IsAnswered, IsConversation}
 use Rattle.speech.specs.Wholes.{IsExchanged}
 use Rattle.speech.proofs.Exchanging.{exchanged}
 use Rattle.speech.specs.Editing.{AreCallsOf, texts_added, told_added}
-use Rattle.speech.specs.Replies.{Told, out_of_memory}
+use Rattle.speech.specs.Replies.{Told, out_of_memory, too_large}
 use Rattle.speech.specs.declared.command.Command.{Command}
 use Rattle.speech.specs.declared.command.Command.TheVariants as asked
 use Rattle.speech.specs.declared.conversation.Ending.{Ending}
@@ -66,12 +68,15 @@ pub does : (limits : Limits) (old new : Opened) (command : Command) (payload : L
 does limits old new (asked.Add size) payload t (inl h) = Calls (Add payload) h.reply h.called (add_tells limits size payload old new t h.reply h.called h.answer)
 does limits old new (asked.Add size) payload t (inr (at, none, valid, said)) = Stays said.0 (refused limits size payload (reading.NotUtf8 at) t said.1)
 does limits old new asked.Run payload t h = Calls (calls.Resume limits.max_facts) h.reply h.called refl
+does limits old new (asked.RunSome more) payload t h = Calls (calls.Resume (run_end limits old more)) (Resumed h.result) h.called refl
 does limits old new (asked.Ask question) payload t h = Calls (calls.Ask question) h.reply h.called refl
 does limits old new (asked.Query size) payload t (inl h) = Calls (calls.Query payload limits.max_facts) h.reply h.called refl
 does limits old new (asked.Query size) payload t (inr (at, none, valid, said)) = Stays said.0 refl
 does limits old new (asked.Write paths) payload t (same, told) = Stays same refl
 does limits old new (asked.Axiom number) payload t (same, told) = Stays same refl
 does limits old new asked.Status payload t (same, told) = Stays same refl
+does limits old new asked.Unsatisfiable payload t (class, is, h) = Calls (calls.Ask (Names Equivalents class)) h.reply h.called refl
+does limits old new asked.Version payload t (same, told) = Stays same refl
 
 -- nothing was done
 pub unasked : (old mid new : Opened) (x : Exchange) (xs : List Exchange) → mid ≡ old → told_added x.command x.reply.status x.payload ≡ [] → AreCallsOf mid xs new → AreCallsOf old (x ∷ xs) new
@@ -81,6 +86,23 @@ unasked old mid new x xs same none h = record {
   are = subst (λ (s : Opened). AreCalls s h.calls h.answers new) same h.are;
   added = h.added ∙ ap (λ (texts : List (List ℕ)). texts ++ texts_added xs) (sym none);
 }
+
+-- a command that more bytes follow than there is room for adds nothing
+passed_adds : (room : ℕ) (command : Option Command) (payload : List ℕ) → told_added command (too_large room).status payload ≡ []
+passed_adds room None payload = refl
+passed_adds room (Some (asked.Add size)) payload = refl
+passed_adds room (Some asked.Run) payload = refl
+passed_adds room (Some (asked.RunSome more)) payload = refl
+passed_adds room (Some (asked.Ask question)) payload = refl
+passed_adds room (Some (asked.Query size)) payload = refl
+passed_adds room (Some (asked.Write paths)) payload = refl
+passed_adds room (Some (asked.Axiom number)) payload = refl
+passed_adds room (Some asked.Status) payload = refl
+passed_adds room (Some asked.Unsatisfiable) payload = refl
+passed_adds room (Some asked.Version) payload = refl
+
+pub passed_adds_none : (room : ℕ) (command : Option Command) (payload : List ℕ) (t : Told) → t ≡ too_large room → told_added command t.status payload ≡ []
+passed_adds_none room command payload t told = ap (λ (x : Told). told_added command x.status payload) told ∙ passed_adds room command payload
 
 -- one exchange before others
 pub before : (old mid new : Opened) (x : Exchange) (xs : List Exchange) → IsSession mid → Does old (told_added x.command x.reply.status x.payload) mid → AreCallsOf mid xs new → AreCallsOf old (x ∷ xs) new
@@ -94,9 +116,11 @@ before old mid new x xs session (Stays same none) h = unasked old mid new x xs s
 
 one_more : (old mid : SessionService) (new : Opened) (x : Exchange) (xs : List Exchange) (command : Option Command) → x.command ≡ command → IsAnswered session_service old command x.payload x.reply mid
     → AreCallsOf mid.session xs new → AreCallsOf old.session (x ∷ xs) new
-one_more old mid new x xs (Some command) is answered h =
+one_more old mid new x xs (Some command) is (inl (room, answered)) h =
     let P : Option Command → Type 0 = λ c. Does old.session (told_added c x.reply.status x.payload) mid.session in
     before old.session mid.session new x xs answered.session (subst P (sym is) (does old.limits old.session mid.session command x.payload x.reply answered.step)) h
+one_more old mid new x xs (Some command) is (inr (more, told, same)) h =
+    unasked old.session mid.session new x xs (ap (λ (s : SessionService). s.session) same) (passed_adds_none _ x.command x.payload x.reply told) h
 one_more old mid new x xs None is (told, same) h =
     let P : Option Command → Type 0 = λ c. told_added c x.reply.status x.payload ≡ [] in
     unasked old.session mid.session new x xs (ap (λ (s : SessionService). s.session) same) (subst P (sym is) refl) h

@@ -7,7 +7,7 @@ use Rattle.source_lines.specs.Sources.{SourceState}
 use Rattle.session.proofs.Pieces.{begun, failed}
 use Rattle.session.specs.Devices.{Device, FailsIn, Takes}
 use Rattle.speech.proofs.Coming.{comes_more, comes_none}
-use Rattle.speech.specs.Conversations.{AreExchanges, AreTurns, Comes, Exchange, IsConversation, IsExchange, IsLastTurn, IsRefused, Point, point, text_asked, text_told, told_of}
+use Rattle.speech.specs.Conversations.{AreExchanges, AreTurns, Comes, Exchange, IsConversation, IsExchange, IsLastTurn, Point, point, text_asked, text_told, told_of}
 use Rattle.speech.specs.Replies.{reply_text}
 use Rattle.speech.specs.Wholes.{IsExchanged, replies}
 use Rattle.speech.specs.declared.conversation.Ending.{Ending}
@@ -54,14 +54,13 @@ whole {V} G v s d xs b c endings.End h (last, same, kept) =
 whole {V} G v s d xs b c (endings.Refused fault) h (down, takes) =
     let all = turned G (point v [] s d) b xs h in
     let P : V → Type 0 = λ u. AreExchanges G v xs u in
-    let R : V → Type 0 = λ u. IsRefused (G.room u) fault b.ahead b.source c.source in
     record {
       xs = xs;
       run = subst P (sym down.stays) all.0;
       ahead = b.ahead;
       then = b.source;
       read = all.1;
-      end = (subst R (sym down.stays) down.refused, takes_more d b.sink c.sink (replies xs) (reply_text (told_of fault)) all.2 takes);
+      end = (down.refused, takes_more d b.sink c.sink (replies xs) (reply_text (told_of fault)) all.2 takes);
     }
 whole {V} G v s d xs b c endings.Unwritten h (inl (x, is, fails)) =
     let all = turned G (point v [] s d) b xs h in
@@ -76,14 +75,13 @@ whole {V} G v s d xs b c endings.Unwritten h (inl (x, is, fails)) =
 whole {V} G v s d xs b c endings.Unwritten h (inr (fault, down, fails)) =
     let all = turned G (point v [] s d) b xs h in
     let P : V → Type 0 = λ u. AreExchanges G v xs u in
-    let R : V → Type 0 = λ u. IsRefused (G.room u) fault b.ahead b.source c.source in
     record {
       xs = xs;
       run = subst P (sym down.stays) all.0;
       ahead = b.ahead;
       then = b.source;
       read = all.1;
-      end = inr (fault, subst R (sym down.stays) down.refused, fails_more d b.sink c.sink (replies xs) (reply_text (told_of fault)) all.2 fails);
+      end = inr (fault, down.refused, fails_more d b.sink c.sink (replies xs) (reply_text (told_of fault)) all.2 fails);
     }
 
 pub exchanged : {V : Type 0} (G : Ghosts V) (u v : V) (s t : SourceState) (d e : Device) (ending : Ending) → IsConversation G u v s t d e ending → IsExchanged G u v s t d e ending

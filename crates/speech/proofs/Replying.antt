@@ -1,28 +1,23 @@
--- What is told of what was heard.
-use Rattle.std.proofs.Common.{◌≡◌, ℕ, List, Option, Some, None, refl, sym, subst, Result, Ok, Err, OnOk, OnErr}
-use Rattle.speech.specs.Conversations.{IsAnswered}
-use Rattle.speech.specs.Replies.{Told, reply_text, unknown_command}
-use Rattle.speech.specs.Turns.{IsReplied}
-use Rattle.speech.specs.declared.command.Command.{Command}
-use Rattle.speech.specs.declared.service.Service.{Ghosts}
+-- A reply in pieces.
+use Rattle.std.proofs.Common.{◌≡◌, ◌∙◌, ◌+◌, ◌++◌, [], ℕ, List, length, ap, arith, length-append}
+use Rattle.std.specs.Prelude.{codes}
+use Rattle.std.specs.Fmt.{decimal}
+use Rattle.program.specs.Status.{code_of}
+use Rattle.program.specs.declared.status.Status.TheVariants as statuses
+use Rattle.speech.specs.Messages.{more_bytes}
+use Rattle.speech.specs.Replies.{reply_text, too_large}
 
-pub on_ok : {A E P Q : Type 0} → (r : Result A E) → (P → Q) → OnOk r P → OnOk r Q
-on_ok (Ok x) f h = f h
-on_ok (Err e) f h = h
-
-pub on_err : {A E P Q : Type 0} → (r : Result A E) → (P → Q) → OnErr r P → OnErr r Q
-on_err (Ok x) f h = h
-on_err (Err e) f h = f h
-
-pub unknown_replied : {V : Type 0} (G : Ghosts V) (v : V) (command : Option Command) (payload : List ℕ) (W : List ℕ → Type 0) → command ≡ None → W (reply_text unknown_command) → IsReplied G v command payload v W
-unknown_replied {V} G v command payload W none w =
-    let P : Option Command → Type 0 = λ c. IsAnswered G v c payload unknown_command v in
-    (unknown_command, subst P (sym none) (refl, refl), w)
-
-pub command_replied : {V : Type 0} (G : Ghosts V) (v u : V) (command : Option Command) (x : Command) (given payload : List ℕ) (t r : Told) (W : List ℕ → Type 0)
-    → command ≡ Some x → given ≡ payload → t ≡ r → G.steps v x given t u → W (reply_text r) → IsReplied G v command payload u W
-command_replied {V} G v u command x given payload t r W some same told step w =
-    let P : Option Command → Type 0 = λ c. IsAnswered G v c payload r u in
-    let Q : List ℕ → Type 0 = λ bytes. G.steps v x bytes r u in
-    let R : Told → Type 0 = λ told. G.steps v x given told u in
-    (r, subst P (sym some) (subst Q same (subst R told step)), w)
+-- that there is no room for the bytes behind a command
+pub too_large_text : (room : ℕ) (head number space size limit most bytes : List ℕ) → head ≡ codes "no " → number ≡ decimal (code_of statuses.Limit) → space ≡ codes " " → size ≡ decimal (length most + 24)
+    → limit ≡ codes "\nlimit: more than " → most ≡ decimal room → bytes ≡ codes " bytes\n"
+    → head ++ (number ++ (space ++ (size ++ (limit ++ (most ++ (bytes ++ [])))))) ≡ reply_text (too_large room)
+too_large_text room head number space size limit most bytes head_is number_is space_is size_is limit_is most_is bytes_is =
+    let text = more_bytes room in
+    let long : length most + 24 ≡ length text = omega (arith, ap length most_is, length-append (codes "limit: more than ") (decimal room ++ codes " bytes\n"), length-append (decimal room) (codes " bytes\n")) in
+    ap (λ (l : List ℕ). l ++ (number ++ (space ++ (size ++ (limit ++ (most ++ (bytes ++ []))))))) head_is
+    ∙ ap (λ (l : List ℕ). codes "no " ++ (l ++ (space ++ (size ++ (limit ++ (most ++ (bytes ++ []))))))) number_is
+    ∙ ap (λ (l : List ℕ). codes "no " ++ (decimal (code_of statuses.Limit) ++ (l ++ (size ++ (limit ++ (most ++ (bytes ++ []))))))) space_is
+    ∙ ap (λ (l : List ℕ). codes "no " ++ (decimal (code_of statuses.Limit) ++ (codes " " ++ (l ++ (limit ++ (most ++ (bytes ++ []))))))) (size_is ∙ ap decimal long)
+    ∙ ap (λ (l : List ℕ). codes "no " ++ (decimal (code_of statuses.Limit) ++ (codes " " ++ (decimal (length text) ++ (l ++ (most ++ (bytes ++ []))))))) limit_is
+    ∙ ap (λ (l : List ℕ). codes "no " ++ (decimal (code_of statuses.Limit) ++ (codes " " ++ (decimal (length text) ++ (codes "\nlimit: more than " ++ (l ++ (bytes ++ []))))))) most_is
+    ∙ ap (λ (l : List ℕ). codes "no " ++ (decimal (code_of statuses.Limit) ++ (codes " " ++ (decimal (length text) ++ (codes "\nlimit: more than " ++ (decimal room ++ (l ++ []))))))) bytes_is

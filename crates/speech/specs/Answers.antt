@@ -1,16 +1,21 @@
 -- What is told of the calls of a session.
-use Rattle.std.specs.Prelude.{◌≡◌, ◌++◌, ◌-◌, ◌⊎◌, ℕ, List, [], Option, Some, None, Result, Ok, Err, codes, length, option_map}
+use Rattle.std.specs.Prelude.{◌≡◌, ◌++◌, ◌+◌, ◌-◌, ◌<◌, ◌⊎◌, ℕ, List, [], Option, Some, None, Result, Ok, Err, codes, length, min, option_map}
 use Rattle.std.specs.Fmt.{decimal}
 use Rattle.std.specs.Str.{IsUtf8, IsValidUpTo}
+use Rattle.std.specs.Borrow.{Bor}
 use Rattle.std.specs.Global.{Vec}
 use Rattle.answer_texts.specs.Axioms.{axiom_line}
 use Rattle.answers.specs.declared.answer.Answer.{Answer}
+use Rattle.axioms.specs.Expression.{owl_nothing}
 use Rattle.axioms.specs.Ontology.{Ontology}
 use Rattle.axioms.specs.View.{at_number}
+use Rattle.inference.specs.declared.known_facts.Stop.{Stop}
 use Rattle.inference.specs.declared.known_facts.Stop.TheVariants as stops
 use Rattle.profile.specs.declared.fault.DocumentFault.TheVariants.{NotUtf8}
 use Rattle.program.specs.declared.limits.Limits.{Limits}
 use Rattle.program.specs.declared.question.Question.{Question}
+use Rattle.program.specs.declared.question.Question.TheVariants.{Names}
+use Rattle.program.specs.declared.question.Related.TheVariants.{Equivalents}
 use Rattle.program.specs.declared.status.Status.TheVariants as statuses
 use Rattle.session.specs.Edits.{Call, Reply, Add, Resume, Ask, Query, Added, Resumed, Answered, Found, Written, IsCall, added}
 use Rattle.session.specs.Queries.{NamesFound, names_in}
@@ -94,6 +99,18 @@ abbrev pub status_text : Opened → List ℕ
 status_text s =
     codes "facts " ++ (decimal (length s.saturation.state.facts) ++ (codes " served " ++ (decimal (length s.saturation.state.served) ++ (codes " bytes " ++ (decimal s.bytes ++ codes "\n")))))
 
+-- that of both counts where a run stopped
+abbrev pub stop_text : Opened → List ℕ
+stop_text s = codes "facts " ++ (decimal (length s.saturation.state.facts) ++ (codes " served " ++ (decimal (length s.saturation.state.served) ++ codes "\n")))
+
+-- the version of the program
+abbrev pub program_version : List ℕ
+program_version = codes "0.9.0"
+
+-- the lines of the versions of the language and of the program
+abbrev pub version_text : List ℕ
+version_text = codes "elc session 1\nelc " ++ (program_version ++ codes "\n")
+
 -- the line of the axiom of that number, if there is one
 abbrev pub axiom_at : Ontology → (number : ℕ) → Option (List ℕ)
 axiom_at o number = option_map (axiom_line o) (at_number o.axioms number)
@@ -102,6 +119,16 @@ axiom_at o number = option_map (axiom_line o) (at_number o.axioms number)
 abbrev pub axiom_told : (number : ℕ) → Option (List ℕ) → Told
 axiom_told number (Some line) = done line
 axiom_told number None = told statuses.Usage (codes "no axiom " ++ (decimal number ++ codes "\n"))
+
+-- what is told where a run stopped at so many facts: that this is the limit, or below it the counts
+abbrev pub IsStopTold : Limits → (end : ℕ) → Opened → Told → Type 0
+IsStopTold limits end s t = ((end ≡ limits.max_facts) × IsFaultTold limits faults.Limit t) ⊎ ((end < limits.max_facts) × (t ≡ told statuses.Limit (stop_text s)))
+
+-- what is told of a run that may go on to so many facts
+abbrev pub IsRunTold : Limits → (end : ℕ) → Opened → Result (Unit {0}) Stop → Told → Type 0
+IsRunTold limits end s (Ok _) t = t ≡ done (run_text s)
+IsRunTold limits end s (Err stops.Limit) t = IsStopTold limits end s t
+IsRunTold limits end s (Err stops.Memory) t = t ≡ out_of_memory
 
 -- what is told of a call's answer by the session, which then has the other ontology and facts
 abbrev pub IsAnswerTold : Limits → Call → Opened → Reply → Told → Type 0
@@ -123,6 +150,20 @@ pub record IsCalled (limits : Limits) (call : Call) (old : Opened) (t : Told) (n
   pub called : IsCall old call reply new
   pub answer : IsAnswerTold limits call new reply t ⊎ ((added call reply ≡ []) × (t ≡ out_of_memory))
 
+-- up to how many facts a run goes on that may draw so many more than there are, within the limit
+abbrev pub run_end : Limits → Opened → (more : ℕ) → ℕ
+run_end limits s more = min limits.max_facts (length s.saturation.state.facts + more)
+
+-- the session is run on, to at most so many facts, and what came of it is told
+pub record IsRunTo (limits : Limits) (end : ℕ) (old : Opened) (t : Told) (new : Opened) : Type 0 where
+  pub result : Result (Unit {0}) Stop
+  pub called : IsCall old (Resume end) (Resumed result) new
+  pub answer : IsRunTold limits end new result t ⊎ (t ≡ out_of_memory)
+
+-- the question for the classes that have no instance in any interpretation: those that are the same as `owl:Nothing`
+abbrev pub IsCalledForEmpty : Limits → (old : Opened) → Told → (new : Opened) → Type 0
+IsCalledForEmpty limits old t new = (class : Bor (List ℕ)) × (class.now ≡ owl_nothing) × IsCalled limits (Ask (Names Equivalents class)) old t new
+
 -- nothing is done, and this is told, or that there was no memory for it
 abbrev pub IsSaid : (Told → Type 0) → (old : Opened) → Told → (new : Opened) → Type 0
 IsSaid P old t new = (new ≡ old) × (P t ⊎ (t ≡ out_of_memory))
@@ -137,11 +178,14 @@ IsTextCalled limits call payload old t new =
 abbrev pub IsStep : Limits → (old : Opened) → commands.Command → (payload : List ℕ) → Told → (new : Opened) → Type 0
 IsStep limits old (asked.Add size) payload t new = IsTextCalled limits Add payload old t new
 IsStep limits old asked.Run payload t new = IsCalled limits (Resume limits.max_facts) old t new
+IsStep limits old (asked.RunSome more) payload t new = IsRunTo limits (run_end limits old more) old t new
 IsStep limits old (asked.Ask question) payload t new = IsCalled limits (Ask question) old t new
 IsStep limits old (asked.Query size) payload t new = IsTextCalled limits (λ text. Query text limits.max_facts) payload old t new
 IsStep limits old (asked.Write paths) payload t new = IsSaid (λ t. t ≡ unfiled) old t new
 IsStep limits old (asked.Axiom number) payload t new = IsSaid (λ t. t ≡ axiom_told number (axiom_at old.ontology number)) old t new
 IsStep limits old asked.Status payload t new = IsSaid (λ t. t ≡ done (status_text old)) old t new
+IsStep limits old asked.Unsatisfiable payload t new = IsCalledForEmpty limits old t new
+IsStep limits old asked.Version payload t new = IsSaid (λ t. t ≡ done version_text) old t new
 
 -- the same of a session with its limits, which stay
 pub record IsServed (old : SessionService) (command : commands.Command) (payload : List ℕ) (t : Told) (new : SessionService) : Type 0 where

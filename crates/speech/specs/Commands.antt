@@ -10,9 +10,9 @@ use Rattle.program.specs.declared.question.Question.{Question}
 use Rattle.program.specs.declared.question.Question.TheVariants.{Names, Groups, Why}
 use Rattle.speech.specs.declared.command.Command.{Command}
 use Rattle.speech.specs.declared.command.TextPaths.{TextPaths}
-use Rattle.speech.specs.declared.command.Command.TheVariants.{Add, Run, Ask, Query, Write, Axiom, Status}
-use Rattle.speech.specs.declared.line.LineFault.{LineFault}
-use Rattle.speech.specs.declared.line.LineFault.TheVariants as faults
+use Rattle.speech.specs.declared.command.Command.TheVariants.{Add, Run, RunSome, Ask, Query, Write, Axiom, Status, Unsatisfiable, Version}
+use Rattle.speech.specs.declared.line.CommandFault.{CommandFault}
+use Rattle.speech.specs.declared.line.CommandFault.TheVariants as faults
 use Rattle.speech.specs.declared.words.Words.{Words}
 use Rattle.speech.specs.declared.words.Words.TheVariants.{One, Two, Three, Four, More}
 
@@ -47,11 +47,14 @@ question_words (Why asked class shown) = why_word asked shown.graph ∷ subject_
 abbrev pub words_of : Command → List (List ℕ)
 words_of (Add size) = codes "add" ∷ decimal size ∷ []
 words_of Run = codes "run" ∷ []
+words_of (RunSome more) = codes "run" ∷ decimal more ∷ []
 words_of (Ask question) = question_words question
 words_of (Query size) = codes "query" ∷ decimal size ∷ []
 words_of (Write paths) = codes "write" ∷ paths.taxonomy.now ∷ paths.instances.now ∷ paths.certificate.now ∷ []
 words_of (Axiom number) = codes "axiom" ∷ decimal number ∷ []
 words_of Status = codes "status" ∷ []
+words_of Unsatisfiable = codes "unsatisfiable" ∷ []
+words_of Version = codes "version" ∷ []
 
 -- how many bytes follow the line of a command
 abbrev pub payload_size : Command → Option ℕ
@@ -64,17 +67,13 @@ abbrev pub text_paths : Command → Option TextPaths
 text_paths (Write paths) = Some paths
 text_paths command = None
 
--- the number in a command, where it has one
-abbrev pub number_in : Command → Option ℕ
-number_in (Add size) = Some size
-number_in (Query size) = Some size
-number_in (Axiom number) = Some number
-number_in command = None
-
--- so many are counted in 64 bits
-abbrev pub IsCounted : Option ℕ → Type 0
-IsCounted None = Unit {0}
-IsCounted (Some size) = size < 2 ^ 64
+-- the number in a command is one that it may have: in 64 bits, and of facts from 1 on and in 32 bits
+abbrev pub IsCounted : Command → Type 0
+IsCounted (Add size) = size < 2 ^ 64
+IsCounted (RunSome more) = (0 < more) × (more < 2 ^ 32)
+IsCounted (Query size) = size < 2 ^ 64
+IsCounted (Axiom number) = number < 2 ^ 64
+IsCounted command = Unit {0}
 
 -- how many bytes a line has at most, before its line feed
 abbrev pub most_line : ℕ
@@ -85,7 +84,7 @@ pub record Spells (line : List ℕ) (command : Command) : Type 0 where
   pub short : length line ≤ most_line
   pub text : IsUtf8 line
   pub words : split_words line ≡ words_of command
-  pub counted : IsCounted (number_in command)
+  pub counted : IsCounted command
 
 -- the line is no command
 abbrev pub SpellsNothing : List ℕ → Type 0
@@ -100,7 +99,7 @@ abbrev pub AnnouncesBytes : List ℕ → Type 0
 AnnouncesBytes line = BeginsWith (codes "add") line ⊎ BeginsWith (codes "query") line
 
 -- why a line is no command: it does not tell how many bytes follow it, or none follow it
-abbrev pub IsNoCommand : List ℕ → LineFault → Type 0
+abbrev pub IsNoCommand : List ℕ → CommandFault → Type 0
 IsNoCommand line faults.Size = SpellsNothing line × AnnouncesBytes line
 IsNoCommand line faults.Unknown = SpellsNothing line × ¬ AnnouncesBytes line
 
@@ -116,8 +115,8 @@ AreWords More words = (a b c d e : List ℕ) × (rest : List (List ℕ)) × (wor
 
 -- the command that has the words, or that there is none
 abbrev pub IsCommandOf : List (List ℕ) → Option Command → Type 0
-IsCommandOf words (Some command) = (words_of command ≡ words) × IsCounted (number_in command)
-IsCommandOf words None = (command : Command) → IsCounted (number_in command) → words_of command ≡ words → ⊥
+IsCommandOf words (Some command) = (words_of command ≡ words) × IsCounted command
+IsCommandOf words None = (command : Command) → IsCounted command → words_of command ≡ words → ⊥
 
 -- the question that has the words, or that there is none
 abbrev pub IsQuestionOf : List (List ℕ) → Option Question → Type 0

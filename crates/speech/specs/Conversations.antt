@@ -8,13 +8,13 @@ use Rattle.program.specs.declared.status.Status.TheVariants as statuses
 use Rattle.source_lines.specs.Sources.{SourceState, Gives, IsReadOn}
 use Rattle.speech.specs.Commands.{IsNoCommand, Spells, payload_size}
 use Rattle.session.specs.Devices.{Device, FailsIn, Takes}
-use Rattle.speech.specs.Replies.{Told, reply_text, told, unknown_command}
+use Rattle.speech.specs.Replies.{Told, reply_text, told, too_large, unknown_command}
 use Rattle.speech.specs.declared.command.Command.{Command}
 use Rattle.speech.specs.declared.conversation.Ending.{Ending}
 use Rattle.speech.specs.declared.conversation.Ending.TheVariants as endings
 use Rattle.speech.specs.declared.input_fault.InputFault.{InputFault}
 use Rattle.speech.specs.declared.input_fault.InputFault.TheVariants.{Size, LineFeed, Cut, Unread, Memory}
-use Rattle.speech.specs.declared.line.LineFault.TheVariants as lines
+use Rattle.speech.specs.declared.line.CommandFault.TheVariants as lines
 use Rattle.speech.specs.declared.service.Service.{Ghosts}
 
 -- ---- what is read
@@ -47,19 +47,27 @@ Follows None old new before after payload = (payload ≡ []) × (new ≡ old) ×
 
 -- ---- commands that are answered
 
--- what a line is: a command that as many bytes may follow as there is room for; or none, and none follow it
-abbrev pub IsHeard : (room : ℕ) → (line : List ℕ) → Option Command → (payload : List ℕ) → Type 0
-IsHeard room line (Some command) payload = Spells line command × (length payload ≤ room)
-IsHeard room line None payload = IsNoCommand line lines.Unknown
+-- what a line is: a command; or none, and no bytes follow it
+abbrev pub IsHeard : (line : List ℕ) → Option Command → Type 0
+IsHeard line (Some command) = Spells line command
+IsHeard line None = IsNoCommand line lines.Unknown
 
 -- how many bytes follow what is asked for
 abbrev pub size_behind : Option Command → Option ℕ
 size_behind (Some command) = payload_size command
 size_behind None = None
 
+-- a command is done, for whose bytes there is room
+abbrev pub IsDone : {V : Type 0} → Ghosts V → (old : V) → Command → (payload : List ℕ) → Told → (new : V) → Type 0
+IsDone V old command payload reply new = (length payload ≤ V.room old) × V.steps old command payload reply new
+
+-- there are more bytes than there is room for, which is told, and nothing is done
+abbrev pub IsPassedOver : {V : Type 0} → Ghosts V → (old : V) → (payload : List ℕ) → Told → (new : V) → Type 0
+IsPassedOver V old payload reply new = (V.room old < length payload) × (reply ≡ too_large (V.room old)) × (new ≡ old)
+
 -- what is done, and what is told of it
 abbrev pub IsAnswered : {V : Type 0} → Ghosts V → (old : V) → Option Command → (payload : List ℕ) → Told → (new : V) → Type 0
-IsAnswered V old (Some command) payload reply new = V.steps old command payload reply new
+IsAnswered V old (Some command) payload reply new = IsDone V old command payload reply new ⊎ IsPassedOver V old payload reply new
 IsAnswered V old None payload reply new = (reply ≡ unknown_command) × (new ≡ old)
 
 -- a line, the command that it is, the bytes behind it, and what is told
@@ -89,7 +97,7 @@ text_told x = reply_text x.reply
 -- the line is answered as what it is
 pub record IsExchange {V : Type 0} (G : Ghosts V) (old : V) (x : Exchange) (new : V) : Type 0 where
   pub single : Contains x.line 10 → ⊥
-  pub heard : IsHeard (G.room old) x.line x.command x.payload
+  pub heard : IsHeard x.line x.command
   pub sized : HasSize (size_behind x.command) x.payload
   pub answered : IsAnswered G old x.command x.payload x.reply new
 
@@ -100,14 +108,13 @@ AreExchanges {V} G old (x ∷ xs) new = (mid : V) × IsExchange G old x mid × A
 
 -- ---- what is no command with its bytes
 
--- a line begins as that of a command that bytes follow, and does not say how many; or there is no room for so many
-abbrev pub HasNoSize : (room : ℕ) → (line : List ℕ) → Type 0
-HasNoSize room line =
-    IsNoCommand line lines.Size ⊎ ((command : Command) × (size : ℕ) × Spells line command × (payload_size command ≡ Some size) × (room < size))
+-- a line begins as that of a command that bytes follow, and does not say how many
+abbrev pub HasNoSize : (line : List ℕ) → Type 0
+HasNoSize line = IsNoCommand line lines.Size
 
--- a line is that of a command that so many bytes follow, for which there is room
-abbrev pub HasPayload : (room : ℕ) → (line : List ℕ) → (size : ℕ) → Type 0
-HasPayload room line size = (command : Command) × Spells line command × (payload_size command ≡ Some size) × (size ≤ room)
+-- a line is that of a command that so many bytes follow
+abbrev pub HasPayload : (line : List ℕ) → (size : ℕ) → Type 0
+HasPayload line size = (command : Command) × Spells line command × (payload_size command ≡ Some size)
 
 -- so many bytes with a line feed behind them stand at the front
 abbrev pub HasEnded : (size : ℕ) → (bytes : List ℕ) → Type 0
@@ -141,20 +148,20 @@ LacksPayload Memory size old before after = IsReadOn before after
 LacksPayload Size size old before after = ⊥
 
 -- a line is there, and not what has to follow it
-pub record LacksFollowing (room : ℕ) (fault : InputFault) (old : List ℕ) (before after : SourceState) : Type 0 where
+pub record LacksFollowing (fault : InputFault) (old : List ℕ) (before after : SourceState) : Type 0 where
   pub line : List ℕ
   pub mid : List ℕ
   pub then : SourceState
   pub comes : ComesLine old mid before then line
   pub size : ℕ
-  pub asked : HasPayload room line size
+  pub asked : HasPayload line size
   pub lacks : LacksPayload fault size mid then after
 
 -- why no command comes next
-abbrev pub IsRefused : (room : ℕ) → InputFault → (old : List ℕ) → (before after : SourceState) → Type 0
-IsRefused room Size old before after = (line : List ℕ) × (new : List ℕ) × ComesLine old new before after line × HasNoSize room line
-IsRefused room Memory old before after = IsReadOn before after
-IsRefused room fault old before after = LacksLine fault old before after ⊎ LacksFollowing room fault old before after
+abbrev pub IsRefused : InputFault → (old : List ℕ) → (before after : SourceState) → Type 0
+IsRefused Size old before after = (line : List ℕ) × (new : List ℕ) × ComesLine old new before after line × HasNoSize line
+IsRefused Memory old before after = IsReadOn before after
+IsRefused fault old before after = LacksLine fault old before after ⊎ LacksFollowing fault old before after
 
 -- the status of the end of a conversation for that reason, and what is told of it
 abbrev pub status_of : InputFault → Status
@@ -165,7 +172,7 @@ status_of Unread = statuses.File
 status_of Memory = statuses.Memory
 
 abbrev pub fault_line : InputFault → List ℕ
-fault_line Size = codes "no size within the limit of bytes"
+fault_line Size = codes "no size"
 fault_line LineFeed = codes "no line feed behind the bytes"
 fault_line Cut = codes "the input ends in a command"
 fault_line Unread = codes "cannot read the input"
@@ -200,18 +207,18 @@ AreTurns G old [] new = new ≡ old
 AreTurns {V} G old (x ∷ xs) new = (mid : Point V) × IsTurn G old x mid × Takes old.sink mid.sink (text_told x) × AreTurns G mid xs new
 
 -- what comes next is refused, and nothing is done
-pub record IsTurnedDown {V : Type 0} (G : Ghosts V) (old : Point V) (fault : InputFault) (new : Point V) : Type 0 where
-  pub refused : IsRefused (G.room old.service) fault old.ahead old.source new.source
+pub record IsTurnedDown {V : Type 0} (old : Point V) (fault : InputFault) (new : Point V) : Type 0 where
+  pub refused : IsRefused fault old.ahead old.source new.source
   pub stays : new.service ≡ old.service
 
 -- what comes last: the end of the source; or what is refused, which is told; or the sink fails in the reply to one more line, or in what
 -- is told of what is refused
 abbrev pub IsLastTurn : {V : Type 0} → Ghosts V → (old : Point V) → Ending → (new : Point V) → Type 0
 IsLastTurn G old endings.End new = IsLast old.ahead old.source new.source [] × (new.service ≡ old.service) × (new.sink ≡ old.sink)
-IsLastTurn G old (endings.Refused fault) new = IsTurnedDown G old fault new × Takes old.sink new.sink (reply_text (told_of fault))
+IsLastTurn G old (endings.Refused fault) new = IsTurnedDown old fault new × Takes old.sink new.sink (reply_text (told_of fault))
 IsLastTurn G old endings.Unwritten new =
     ((x : Exchange) × IsTurn G old x new × FailsIn old.sink new.sink (text_told x))
-    ⊎ ((fault : InputFault) × IsTurnedDown G old fault new × FailsIn old.sink new.sink (reply_text (told_of fault)))
+    ⊎ ((fault : InputFault) × IsTurnedDown old fault new × FailsIn old.sink new.sink (reply_text (told_of fault)))
 
 -- turn by turn, and then what comes last; at first nothing is read
 abbrev pub IsConversation : {V : Type 0} → Ghosts V → (old new : V) → (before after : SourceState) → (sink sink' : Device) → Ending → Type 0

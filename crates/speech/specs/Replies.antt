@@ -4,6 +4,7 @@ use Rattle.std.specs.Fmt.{decimal}
 use Rattle.program.specs.Status.{code_of}
 use Rattle.program.specs.declared.status.Status.{Status}
 use Rattle.program.specs.declared.status.Status.TheVariants as statuses
+use Rattle.speech.specs.Messages.{more_bytes}
 use Rattle.speech.specs.declared.reply.Reply.{Reply}
 
 -- a status, and a text
@@ -25,6 +26,10 @@ told_by (Err refused) = out_of_memory
 -- what is told of a line that is no command
 abbrev pub unknown_command : Told
 unknown_command = told statuses.Usage (codes "unknown command\n")
+
+-- what is told of a command that more bytes follow than there is room for
+abbrev pub too_large : (room : ℕ) → Told
+too_large room = told statuses.Limit (more_bytes room)
 
 -- that a command was done, and its answer
 abbrev pub done_text : List ℕ → List ℕ

@@ -15,12 +15,12 @@ abbrev pub replies : List Exchange → List ℕ
 replies xs = flat_map text_told xs
 
 -- what was read behind the exchanges, and what was written: all replies, and what is told of what is refused; or a beginning of that
-abbrev pub IsEndBehind : (room : ℕ) → List Exchange → (ahead : List ℕ) → (before after : SourceState) → (sink sink' : Device) → Ending → Type 0
-IsEndBehind room xs ahead before after sink sink' endings.End = IsLast ahead before after [] × Takes sink sink' (replies xs)
-IsEndBehind room xs ahead before after sink sink' (endings.Refused fault) = IsRefused room fault ahead before after × Takes sink sink' (replies xs ++ reply_text (told_of fault))
-IsEndBehind room xs ahead before after sink sink' endings.Unwritten =
+abbrev pub IsEndBehind : List Exchange → (ahead : List ℕ) → (before after : SourceState) → (sink sink' : Device) → Ending → Type 0
+IsEndBehind xs ahead before after sink sink' endings.End = IsLast ahead before after [] × Takes sink sink' (replies xs)
+IsEndBehind xs ahead before after sink sink' (endings.Refused fault) = IsRefused fault ahead before after × Takes sink sink' (replies xs ++ reply_text (told_of fault))
+IsEndBehind xs ahead before after sink sink' endings.Unwritten =
     ((after ≡ before) × FailsIn sink sink' (replies xs))
-    ⊎ ((fault : InputFault) × IsRefused room fault ahead before after × FailsIn sink sink' (replies xs ++ reply_text (told_of fault)))
+    ⊎ ((fault : InputFault) × IsRefused fault ahead before after × FailsIn sink sink' (replies xs ++ reply_text (told_of fault)))
 
 -- lines are answered, one behind the other, what was read spells them and what came behind them, and what was written is what is told
 pub record IsExchanged {V : Type 0} (G : Ghosts V) (old new : V) (before after : SourceState) (sink sink' : Device) (ending : Ending) : Type 0 where
@@ -29,4 +29,4 @@ pub record IsExchanged {V : Type 0} (G : Ghosts V) (old new : V) (before after :
   pub ahead : List ℕ
   pub then : SourceState
   pub read : Comes [] ahead before then (flat_map text_asked xs)
-  pub end : IsEndBehind (G.room new) xs ahead then after sink sink' ending
+  pub end : IsEndBehind xs ahead then after sink sink' ending

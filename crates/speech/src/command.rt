@@ -19,6 +19,8 @@ pub enum Command<'l> {
     Add(u64),
     /// To find out what follows.
     Run,
+    /// To find out what follows, as far as so many facts more than there are.
+    RunSome(u32),
     /// To answer the question.
     Ask(Question<'l>),
     /// The names of the class expression of a text of so many bytes.
@@ -29,6 +31,10 @@ pub enum Command<'l> {
     Axiom(u64),
     /// How many facts there are, how many are served, and how many bytes.
     Status,
+    /// The classes that have no instance in any interpretation.
+    Unsatisfiable,
+    /// Of which version the language and the program are.
+    Version,
 }
 
 impl<'l> Command<'l> {

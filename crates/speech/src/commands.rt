@@ -3,7 +3,7 @@ ghost use Rattle.speech.specs.Commands.{IsCommandOf, IsQuestionOf, IsSubjectOf, 
 ghost use Rattle.std.specs.Prelude.{◌∷◌, [], IfNone, IfSome};
 
 use crate::command::{Command, TextPaths};
-use crate::sizes::size_of_word;
+use crate::sizes::{count_of_word, size_of_word};
 use crate::words::{Words, words_in};
 use program::{Asked, Question, Related, Shown, Side};
 
@@ -17,6 +17,8 @@ fn command_alone(verb: &str) -> Option<Command<'static>>
     match verb {
         "run" => Some(Command::Run),
         "status" => Some(Command::Status),
+        "unsatisfiable" => Some(Command::Unsatisfiable),
+        "version" => Some(Command::Version),
         _ => None,
     }
 }
@@ -39,6 +41,7 @@ fn command_with_word<'l>(verb: &str, word: &'l str) -> Option<Command<'l>>
     match verb {
         "add" => Some(Command::Add(size_of_word(word)?)),
         "query" => Some(Command::Query(size_of_word(word)?)),
+        "run" => Some(Command::RunSome(count_of_word(word)?)),
         "axiom" => Some(Command::Axiom(size_of_word(word)?)),
         _ => Some(Command::Ask(question_of_class(verb, word)?)),
     }

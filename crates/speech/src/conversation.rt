@@ -2,12 +2,12 @@
 ghost use Rattle.source_lines.specs.Sources.{source_state};
 ghost use Rattle.speech.specs.Conversations.{IsConversation, point};
 ghost use Rattle.session.specs.Devices.{FailsIn, Takes, seen};
-ghost use Rattle.speech.specs.Turns.{IsNext, IsRefusalTold, IsReplied, status_of_end};
-ghost use Rattle.std.specs.Prelude.{◌≡◌, ◌≤◌, OnErr, OnOk, length};
+ghost use Rattle.speech.specs.Turns.{Fits, IsNext, IsRefusalTold, IsReplied, status_of_end};
+ghost use Rattle.std.specs.Prelude.{◌≡◌, OnErr, OnOk};
 
 use crate::hearing::{Heard, hear, next_line};
 use crate::input_fault::InputFault;
-use crate::reply::write_reply;
+use crate::reply::{write_reply, write_too_large};
 use crate::service::Service;
 use device::{Failed, Sink, Source};
 use program::Status;
@@ -44,16 +44,17 @@ fn respond<V: Service, O: Sink>(
     heard: &Heard<'_>,
     sink: &mut O,
 ) -> Result<(), Failed>
-    requires { length heard.now.payload.items ≤ V.room service.old }
-    ensures whole { OnOk result (IsReplied V.Service service.old heard.now.command heard.now.payload.items service.new (Takes (seen O.Sink sink.old) (seen O.Sink sink.new))) }
-    ensures begun { OnErr result (IsReplied V.Service service.old heard.now.command heard.now.payload.items service.new (FailsIn (seen O.Sink sink.old) (seen O.Sink sink.new))) }
+    requires { Fits (V.room service.old) heard.now }
+    ensures whole { OnOk result (IsReplied V.Service service.old heard.now service.new (Takes (seen O.Sink sink.old) (seen O.Sink sink.new))) }
+    ensures begun { OnErr result (IsReplied V.Service service.old heard.now service.new (FailsIn (seen O.Sink sink.old) (seen O.Sink sink.new))) }
 {
-    let Some(command) = heard.command else {
-        return write_reply(sink, Status::Usage, b"unknown command\n");
-    };
-    match service.answer(command, &heard.payload) {
-        Ok(reply) => write_reply(sink, reply.status, &reply.text),
-        Err(_) => write_reply(sink, Status::Memory, b"out of memory\n"),
+    match heard {
+        Heard::Command(command, payload) => match service.answer(*command, payload) {
+            Ok(reply) => write_reply(sink, reply.status, &reply.text),
+            Err(_) => write_reply(sink, Status::Memory, b"out of memory\n"),
+        },
+        Heard::TooLarge => write_too_large(sink, service.most_payload()),
+        Heard::Unknown => write_reply(sink, Status::Usage, b"unknown command\n"),
     }
 }
 

@@ -1,21 +1,25 @@
 //! Commands as they are read from a source.
 ghost use Rattle.source_lines.specs.Sources.{source_state};
-ghost use Rattle.speech.specs.Conversations.{ComesPayload, Follows, LacksPayload};
-ghost use Rattle.speech.specs.Turns.{Hears, IsNextLine, LacksBehind, LacksSized};
-ghost use Rattle.std.specs.Prelude.{◌≤◌, IfErr, IfOk, length};
+ghost use Rattle.speech.specs.Conversations.{ComesPayload, LacksPayload};
+ghost use Rattle.speech.specs.Turns.{Hears, IsNextLine, IsPassed, KeepsFollowing, LacksBehind, LacksSized};
+ghost use Rattle.std.specs.Prelude.{IfErr, IfOk, OnOk};
 
 use crate::command::Command;
 use crate::input_fault::{InputFault, input_fault};
-use crate::line::{LineFault, read_command};
+use crate::line::{CommandFault, read_command};
 use device::Source;
 use source_lines::SourceLines;
 use std::alloc::Global;
 
-/// What a line asks for, if it is a command, and the bytes that followed it.
+/// What a line is.
 #[derive(Drop)]
-pub(crate) struct Heard<'l> {
-    pub command: Option<Command<'l>>,
-    pub payload: Vec<u8>,
+pub(crate) enum Heard<'l> {
+    /// A command, and the bytes that followed it.
+    Command(Command<'l>, Vec<u8>),
+    /// A command that more bytes followed than there is room for: they are gone.
+    TooLarge,
+    /// No command, and no bytes followed it.
+    Unknown,
 }
 
 /// The next line, without its line feed; or that the source is at its end.
@@ -75,22 +79,60 @@ fn read_payload<S: Source>(
     Ok(payload)
 }
 
-/// The bytes that follow a line, where so many do, and nothing else.
+/// Passes over the next so many bytes, which have a line feed behind them.
+fn pass_payload<S: Source>(
+    size: u64,
+    lines: &mut SourceLines,
+    source: &mut S,
+) -> Result<(), InputFault>
+    ensures passed { OnOk result (IsPassed size lines.old.ahead lines.new.ahead (source_state S.Source source.old) (source_state S.Source source.new)) }
+    ensures lacks { IfErr result (λ fault. LacksPayload fault size lines.old.ahead (source_state S.Source source.old) (source_state S.Source source.new)) }
+{
+    let mut left = size;
+    loop {
+        if let Err(fault) = lines.advance(source) {
+            return Err(input_fault(fault));
+        }
+        let line = lines.line();
+        if line.is_empty() {
+            return Err(InputFault::Cut);
+        }
+        let len = line.len() as u64;
+        if len > left {
+            let Some(front) = line.strip_suffix(b"\n") else {
+                return Err(InputFault::LineFeed);
+            };
+            return if front.len() as u64 == left {
+                Ok(())
+            } else {
+                Err(InputFault::LineFeed)
+            };
+        }
+        left -= len;
+    }
+}
+
+/// The bytes that follow a line, where so many do, and nothing else; where there is no room for them they are passed over.
 fn read_behind<S: Source>(
     alloc: Global,
     room: u64,
     size: Option<u64>,
     lines: &mut SourceLines,
     source: &mut S,
-) -> Result<Vec<u8>, InputFault>
-    ensures read { IfOk result (λ v. Follows size lines.old.ahead lines.new.ahead (source_state S.Source source.old) (source_state S.Source source.new) v.items) }
-    ensures within { IfOk result (λ v. length v.items ≤ room) }
-    ensures lacks { IfErr result (λ fault. LacksSized room size fault lines.old.ahead lines.new.ahead (source_state S.Source source.old) (source_state S.Source source.new)) }
+) -> Result<Option<Vec<u8>>, InputFault>
+    ensures read { IfOk result (KeepsFollowing room size lines.old.ahead lines.new.ahead (source_state S.Source source.old) (source_state S.Source source.new)) }
+    ensures lacks { IfErr result (λ fault. LacksSized size fault lines.old.ahead (source_state S.Source source.old) (source_state S.Source source.new)) }
 {
     match size {
-        None => Ok(Vec::new(alloc)),
-        Some(size) if size <= room => read_payload(alloc, size, lines, source),
-        Some(_) => Err(InputFault::Size),
+        None => Ok(Some(Vec::new(alloc))),
+        Some(size) if size <= room => match read_payload(alloc, size, lines, source) {
+            Ok(payload) => Ok(Some(payload)),
+            Err(fault) => Err(fault),
+        },
+        Some(size) => match pass_payload(size, lines, source) {
+            Ok(()) => Ok(None),
+            Err(fault) => Err(fault),
+        },
     }
 }
 
@@ -103,23 +145,16 @@ pub(crate) fn hear<'l, S: Source>(
     source: &mut S,
 ) -> Result<Heard<'l>, InputFault>
     ensures heard { IfOk result (Hears room line.now lines.old.ahead lines.new.ahead (source_state S.Source source.old) (source_state S.Source source.new)) }
-    ensures lacks { IfErr result (λ fault. LacksBehind room line.now fault lines.old.ahead lines.new.ahead (source_state S.Source source.old) (source_state S.Source source.new)) }
+    ensures lacks { IfErr result (λ fault. LacksBehind line.now fault lines.old.ahead lines.new.ahead (source_state S.Source source.old) (source_state S.Source source.new)) }
 {
     let command = match read_command(line) {
         Ok(command) => command,
-        Err(LineFault::Size) => return Err(InputFault::Size),
-        Err(LineFault::Unknown) => {
-            return Ok(Heard {
-                command: None,
-                payload: Vec::new(alloc),
-            });
-        }
+        Err(CommandFault::Size) => return Err(InputFault::Size),
+        Err(CommandFault::Unknown) => return Ok(Heard::Unknown),
     };
     match read_behind(alloc, room, command.payload_size(), lines, source) {
-        Ok(payload) => Ok(Heard {
-            command: Some(command),
-            payload,
-        }),
+        Ok(Some(payload)) => Ok(Heard::Command(command, payload)),
+        Ok(None) => Ok(Heard::TooLarge),
         Err(fault) => Err(fault),
     }
 }

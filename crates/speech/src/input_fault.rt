@@ -11,7 +11,7 @@ use thiserror::Error;
 /// Why what is read is no command with its bytes. Where the next command begins is then not known.
 #[derive(Clone, Copy, Debug, PartialEq, Eq, Error)]
 pub enum InputFault {
-    /// A line does not say how many bytes follow it, or they are more than may follow.
+    /// A line does not say how many bytes follow it.
     Size,
     /// The bytes that follow a line have no line feed behind them.
     LineFeed,
@@ -40,7 +40,7 @@ impl InputFault {
         ensures { result.now ≡ fault_text self }
     {
         match self {
-            InputFault::Size => b"no size within the limit of bytes\n".as_slice(),
+            InputFault::Size => b"no size\n".as_slice(),
             InputFault::LineFeed => b"no line feed behind the bytes\n".as_slice(),
             InputFault::Cut => b"the input ends in a command\n".as_slice(),
             InputFault::Unread => b"cannot read the input\n".as_slice(),
@@ -57,7 +57,7 @@ impl fmt::Display for InputFault {
 
     fn fmt<W: fmt::Write>(&self, f: &mut fmt::Formatter<W>) -> fmt::Result {
         match self {
-            InputFault::Size => write!(f, "no size within the limit of bytes"),
+            InputFault::Size => write!(f, "no size"),
             InputFault::LineFeed => write!(f, "no line feed behind the bytes"),
             InputFault::Cut => write!(f, "the input ends in a command"),
             InputFault::Unread => write!(f, "cannot read the input"),

@@ -14,6 +14,7 @@ mod reply;
 mod service;
 mod session_service;
 mod sizes;
+mod version;
 mod words;
 
 pub use answering::unfinished_reply;
@@ -22,8 +23,9 @@ pub use commands::{MOST_LINE, command_of};
 pub use conversation::{Ending, converse};
 pub use editing::conversations_are_edits;
 pub use input_fault::InputFault;
-pub use line::{LineFault, read_command};
+pub use line::{CommandFault, read_command};
 pub use messages::{Message, document_message, message_of, question_message, unread_message};
 pub use reply::{Reply, write_reply};
 pub use service::Service;
 pub use session_service::SessionService;
+pub use version::VERSION;

@@ -9,7 +9,7 @@ use thiserror::Error;
 
 /// Why a line is no command.
 #[derive(Clone, Copy, Debug, PartialEq, Eq, Error)]
-pub enum LineFault {
+pub enum CommandFault {
     /// It is no command.
     #[error("no command")]
     Unknown,
@@ -43,7 +43,7 @@ fn announces_bytes(line: &[u8]) -> bool
 /// # Errors
 ///
 /// `Size` where it is none and begins as one that bytes follow, and `Unknown` where it is none else.
-pub fn read_command(line: &[u8]) -> Result<Command<'_>, LineFault>
+pub fn read_command(line: &[u8]) -> Result<Command<'_>, CommandFault>
     ensures spelled { IfOk result (Spells line.now) }
     ensures refused { IfErr result (IsNoCommand line.now) }
 {
@@ -53,8 +53,8 @@ pub fn read_command(line: &[u8]) -> Result<Command<'_>, LineFault>
         }
     }
     if announces_bytes(line) {
-        Err(LineFault::Size)
+        Err(CommandFault::Size)
     } else {
-        Err(LineFault::Unknown)
+        Err(CommandFault::Unknown)
     }
 }

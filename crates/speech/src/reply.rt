@@ -1,6 +1,6 @@
 //! Replies.
 ghost use Rattle.session.specs.Devices.{FailsIn, Takes, seen};
-ghost use Rattle.speech.specs.Replies.{done_text, refused_text, reply_text, told};
+ghost use Rattle.speech.specs.Replies.{done_text, refused_text, reply_text, told, too_large};
 ghost use Rattle.std.specs.Prelude.{OnErr, OnOk};
 
 use device::{Failed, Sink};
@@ -57,4 +57,27 @@ pub fn write_reply<W: Sink>(sink: &mut W, status: Status, text: &[u8]) -> Result
         Status::Done => write_done(sink, text),
         _ => write_refused(sink, status, text),
     }
+}
+
+/// Writes the reply that more bytes follow a command than there is room for. No memory is needed for it.
+pub(crate) fn write_too_large<W: Sink>(sink: &mut W, room: u64) -> Result<(), Failed>
+    ensures whole { OnOk result (Takes (seen W.Sink sink.old) (seen W.Sink sink.new) (reply_text (too_large room))) }
+    ensures begun { OnErr result (FailsIn (seen W.Sink sink.old) (seen W.Sink sink.new) (reply_text (too_large room))) }
+{
+    let mut number = Buffer::new();
+    let mut size = Buffer::new();
+    let mut digits = Buffer::new();
+    let code = number.format(Status::Limit.code()).as_bytes();
+    let most = digits.format(room).as_bytes();
+    let len = size.format(most.len() + 24).as_bytes();
+    let pieces = [
+        b"no ".as_slice(),
+        code,
+        b" ".as_slice(),
+        len,
+        b"\nlimit: more than ".as_slice(),
+        most,
+        b" bytes\n".as_slice(),
+    ];
+    write_pieces(sink, &pieces)
 }

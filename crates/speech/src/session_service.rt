@@ -2,22 +2,25 @@
 ghost use Rattle.session.specs.Edits.{Add, Ask, Query, Resume};
 ghost use Rattle.profile.specs.declared.fault.DocumentFault.TheVariants.{NotUtf8};
 ghost use Rattle.session.specs.declared.question_fault.QuestionFault.TheVariants as faults;
-ghost use Rattle.speech.specs.Answers.{IsCalled, IsFaultTold, IsStep, IsTextCalled, Tells, axiom_at, axiom_told, done, run_text, status_text};
+ghost use Rattle.speech.specs.Answers.{IsCalled, IsCalledForEmpty, IsFaultTold, IsRunTo, IsStep, IsStopTold, IsTextCalled, Tells, axiom_at, axiom_told, done, run_end, run_text, status_text};
 ghost use Rattle.speech.specs.Replies.{told_by};
-ghost use Rattle.std.specs.Prelude.{◌≡◌, None};
+ghost use Rattle.std.specs.Prelude.{◌≡◌, ◌≤◌, None};
 
 use crate::answering::{answered_reply, done_reply, fault_reply, found_reply, unfiled_reply};
 use crate::command::Command;
 use crate::reply::Reply;
 use crate::service::Service;
+use crate::sizes::end_of_run;
+use crate::version::version_reply;
+use axioms::OWL_NOTHING;
 use device::Memory;
 use profile::{DocumentFault, Limits};
-use program::{Question, Status};
+use program::{Question, Related, Status};
 use session::{QuestionFault, Session, Stop};
 use std::alloc::Global;
 use std::str::from_utf8;
 
-/// A session that answers commands, and writes no files. Each `Run` goes on to at most as many facts as the limits have, and so does a
+/// A session that answers commands, and writes no files. Each run goes on to at most as many facts as the limits have, and so does a
 /// query. How many bytes may still come with a command goes by the session's own limit.
 #[derive(Drop)]
 pub struct SessionService {
@@ -57,10 +60,47 @@ impl SessionService {
         ensures step { IsCalled self.old.limits (Resume self.old.limits.max_facts) self.old.session (told_by result) self.new.session }
         ensures limits { self.new.limits ≡ self.old.limits }
     {
-        match self.session.resume(self.limits.max_facts) {
+        self.run_to(self.limits.max_facts)
+    }
+
+    /// Finds out what follows, as far as so many facts more than there are.
+    fn run_some(&mut self, more: u32) -> Result<Reply, Memory>
+        ensures step { IsRunTo self.old.limits (run_end self.old.limits self.old.session more) self.old.session (told_by result) self.new.session }
+        ensures limits { self.new.limits ≡ self.old.limits }
+    {
+        let end = end_of_run(self.session.facts(), more, self.limits.max_facts);
+        self.run_to(end)
+    }
+
+    /// Finds out what follows, to at most so many facts.
+    fn run_to(&mut self, end: u32) -> Result<Reply, Memory>
+        requires { end ≤ self.old.limits.max_facts }
+        ensures step { IsRunTo self.old.limits end self.old.session (told_by result) self.new.session }
+        ensures limits { self.new.limits ≡ self.old.limits }
+    {
+        match self.session.resume(end) {
             Ok(()) => self.facts(),
-            Err(Stop::Limit) => fault_reply(self.alloc, &self.limits, &QuestionFault::Limit),
+            Err(Stop::Limit) => self.stopped(end),
             Err(Stop::Memory) => Err(Memory),
+        }
+    }
+
+    /// The reply where a run stopped at so many facts.
+    fn stopped(&self, end: u32) -> Result<Reply, Memory>
+        requires { end ≤ self.now.limits.max_facts }
+        ensures { Tells (IsStopTold self.now.limits end self.now.session) result }
+    {
+        if end == self.limits.max_facts {
+            return fault_reply(self.alloc, &self.limits, &QuestionFault::Limit);
+        }
+        let facts = self.session.facts();
+        let served = self.session.served();
+        match format!(in self.alloc; "facts {facts} served {served}\n") {
+            Ok(text) => Ok(Reply {
+                status: Status::Limit,
+                text: text.into_bytes(),
+            }),
+            Err(_) => Err(Memory),
         }
     }
 
@@ -121,6 +161,13 @@ impl SessionService {
         answered_reply(self.alloc, &self.limits, ontology, question, answer)
     }
 
+    /// The names of the classes that have no instance in any interpretation.
+    fn unsatisfiable(&self) -> Result<Reply, Memory>
+        ensures { IsCalledForEmpty self.now.limits self.now.session (told_by result) self.now.session }
+    {
+        self.ask(Question::Names(Related::Equivalents, OWL_NOTHING))
+    }
+
     /// The names of the class expression that the bytes are.
     fn query(&self, payload: &[u8]) -> Result<Reply, Memory>
         ensures { IsTextCalled self.now.limits (λ text. Query text self.now.limits.max_facts) payload.now self.now.session (told_by result) self.now.session }
@@ -144,11 +191,14 @@ impl SessionService {
         match command {
             Command::Add(_) => self.add(payload),
             Command::Run => self.run(),
+            Command::RunSome(more) => self.run_some(more),
             Command::Ask(question) => self.ask(question),
             Command::Query(_) => self.query(payload),
             Command::Write(_) => unfiled_reply(self.alloc),
             Command::Axiom(number) => self.axiom(number),
             Command::Status => self.status(),
+            Command::Unsatisfiable => self.unsatisfiable(),
+            Command::Version => version_reply(self.alloc),
         }
     }
 }

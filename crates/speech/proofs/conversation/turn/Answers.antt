@@ -10,11 +10,10 @@ pub returns-in-Err-hear : goal.returns-in-Err-hear
 returns-in-Err-hear g c =
     let t = source_state g.S.Source c.next_line.new.source in
     let u = source_state g.S.Source c.hear.new.source in
-    let P : ℕ → Type 0 = λ room. LacksBehind room c.deref.result.now c.in-Err-hear.fault c.next_line.new.lines.ahead c.hear.new.lines.ahead t u in
-    let Q : List ℕ → Type 0 = λ line. LacksBehind (g.V.Service.room c.args.service.now) line c.in-Err-hear.fault c.next_line.new.lines.ahead c.hear.new.lines.ahead t u in (
+    let Q : List ℕ → Type 0 = λ line. LacksBehind line c.in-Err-hear.fault c.next_line.new.lines.ahead c.hear.new.lines.ahead t u in (
       record {
-        refused = refused_behind (g.V.Service.room c.args.service.now) c.in-Ok-Some.line.items c.in-Err-hear.fault c.args.lines.now.ahead c.next_line.new.lines.ahead c.hear.new.lines.ahead
-            (source_state g.S.Source c.args.source.now) t u (rw c.in-Ok-Some.field-0-is at c.in-Ok-Some.ensures) (subst Q c.deref.ensures.value (subst P c.most_payload.ensures c.in-Err-hear.ensures.lacks));
+        refused = refused_behind c.in-Ok-Some.line.items c.in-Err-hear.fault c.args.lines.now.ahead c.next_line.new.lines.ahead c.hear.new.lines.ahead
+            (source_state g.S.Source c.args.source.now) t u (rw c.in-Ok-Some.field-0-is at c.in-Ok-Some.ensures) (subst Q c.deref.ensures.value c.in-Err-hear.ensures.lacks);
         stays = refl {a = c.args.service.now};
       },
       refl {a = seen g.O.Sink c.args.sink.now},
