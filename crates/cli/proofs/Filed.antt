@@ -24,11 +24,11 @@ use Rattle.session.specs.Edits.{Reply, Added, Resumed, Answered, Found, Written,
 use Rattle.session.specs.Progress.{IsProgress}
 use Rattle.session.specs.Sessions.{IsSession, KeepsText, Opened}
 use Rattle.session.specs.WrittenTexts.{Sinks}
-use Rattle.session.specs.declared.fault.TextFault.{TextFault}
-use Rattle.session.specs.declared.fault.TextFault.TheVariants.{Io, Memory, Unfinished}
+use Rattle.session.specs.declared.fault.WritingFault.{WritingFault}
+use Rattle.session.specs.declared.fault.WritingFault.TheVariants.{Io, Memory, Unfinished}
 use Rattle.source_lines.specs.Sources.{SourceState}
 use Rattle.speech.proofs.SeenAs.{conversation_seen}
-use Rattle.speech.proofs.Edits.{Does, Stays, before, does, unasked}
+use Rattle.speech.proofs.Edits.{Does, Stays, before, does, passed_adds_none, unasked}
 use Rattle.speech.specs.Answers.{session_service}
 use Rattle.speech.specs.Commands.{text_paths}
 use Rattle.speech.specs.Conversations.{AreExchanges, Exchange, IsAnswered, IsConversation, IsExchange}
@@ -45,7 +45,7 @@ use Rattle.system_files.specs.declared.files.Files as files
 
 -- ---- what is written
 
-pub texts_answer : (paths : Paths) (format : Format) (known : Bool) (s : Opened) (content content' : Content) (old new : Sinks) (answer : Result Summary TextFault) → AreNew known old → IsWritten s format old new answer → AreSinksClosed paths new content content'
+pub texts_answer : (paths : Paths) (format : Format) (known : Bool) (s : Opened) (content content' : Content) (old new : Sinks) (answer : Result Summary WritingFault) → AreNew known old → IsWritten s format old new answer → AreSinksClosed paths new content content'
     → IsTextsAnswer paths format known s content content' answer
 texts_answer paths format known s content content' old new (Ok summary) fresh is closed =
     (is.0, is.1, λ apart. texts_held known paths old new is.0 content content' (acceptable_are_some s.ontology is.0 is.1.acceptable) fresh is.2 closed apart)
@@ -56,7 +56,7 @@ texts_answer paths format known s content content' old new (Err (Io n)) fresh is
     let made = is.2.2 in
     (is.0, is.1, (is.2.0, texts, made, λ apart. texts_held_until n known paths old new texts content content' (acceptable_are_some s.ontology texts made.acceptable) fresh is.2.3 closed apart))
 
-pub texts_blamed : (s : Opened) (format : Format) (failed_before failed_behind : ℕ) (old new : Sinks) (answer : Result Summary TextFault) → AreWorking old → AreCounted new failed_before failed_behind → IsWritten s format old new answer
+pub texts_blamed : (s : Opened) (format : Format) (failed_before failed_behind : ℕ) (old new : Sinks) (answer : Result Summary WritingFault) → AreWorking old → AreCounted new failed_before failed_behind → IsWritten s format old new answer
     → BlamesTexts failed_before failed_behind answer
 texts_blamed s format failed_before failed_behind old new (Ok summary) working counted is = written_none old new is.0 _ _ working counted is.2
 texts_blamed s format failed_before failed_behind old new (Err Unfinished) working counted is = none new _ _ counted (untouched old new working is.1)
@@ -90,12 +90,12 @@ stays_over {F} {In} {Out} {E} G S known told document first old new same is = le
 
 answered_over : {F In Out E : Type 0} (G : files.Ghosts F In Out) (S : sinks.Ghosts E) (known told : Bool) (document : Bor (List ℕ)) (first old new : FileService F E In Out) (command : Option Command) (payload : List ℕ) (t : Told)
     → IsOver G S known told document first old → IsAnswered (over G S) old command payload t new → IsAnswered (filing_service known told document) (filed G old) command payload t (filed G new) × IsOver G S known told document first new
-answered_over {F} {In} {Out} {E} G S known told document first old new (Some command) payload t is step =
+answered_over {F} {In} {Out} {E} G S known told document first old new (Some command) payload t is (inl (room, step)) =
     let Files : Bool → Type 0 = λ k. IsFiledBy k old.told old.document (text_paths command) (filed G old) command payload t (filed G new) in
     let Telling : Bool → Type 0 = λ b. IsFiledBy known b old.document (text_paths command) (filed G old) command payload t (filed G new) in
     let Document : Bor (List ℕ) → Type 0 = λ d. IsFiledBy known told d (text_paths command) (filed G old) command payload t (filed G new) in
     let Progress : Bool → Type 0 = λ b. IsProgress b (seen S old.err.now) (seen S new.err.now) in (
-      subst Document is.document_is (subst Telling is.told_is (subst Files is.known_is step.step)),
+      inl (room, subst Document is.document_is (subst Telling is.told_is (subst Files is.known_is step.step))),
       record {
         known_is = step.known ∙ is.known_is;
         document_is = step.document ∙ is.document_is;
@@ -105,6 +105,7 @@ answered_over {F} {In} {Out} {E} G S known told document first old new (Some com
         err_is = step.err ∙ is.err_is;
       },
     )
+answered_over G S known told document first old new (Some command) payload t is (inr (more, tells, same)) = (inr (more, tells, ap (filed G) same), stays_over G S known told document first old new same is)
 answered_over G S known told document first old new None payload t is (tells, same) = ((tells, ap (filed G) same), stays_over G S known told document first old new same is)
 
 exchange_over : {F In Out E : Type 0} (G : files.Ghosts F In Out) (S : sinks.Ghosts E) (known told : Bool) (document : Bor (List ℕ)) (first old new : FileService F E In Out) (x : Exchange)
@@ -119,7 +120,7 @@ pub conversation_over : {F In Out E : Type 0} (G : files.Ghosts F In Out) (S : s
     → IsConversation (filing_service known told document) (filed G first) (filed G new) s t sink sink' ending × IsOver G S known told document first new
 conversation_over G S known told document first new s t sink sink' ending is talk =
     conversation_seen (over G S) (filing_service known told document) (filed G) (IsOver G S known told document first)
-    (record { exchange = λ a x b here e. exchange_over G S known told document first a b x here e; room = λ a. refl }) first new s t sink sink' ending is talk
+    (record { exchange = λ a x b here e. exchange_over G S known told document first a b x here e }) first new s t sink sink' ending is talk
 
 -- it is one over what the files hold that are the same in the end
 pub spoken_over : {F In Out : Type 0} (G : files.Ghosts F In Out) (known told : Bool) (document : Bor (List ℕ)) (old : Filed) (last : SessionService) (behind found : F) (s t : SourceState) (sink sink' : Device) (ending : Ending) → behind ≡ found
@@ -164,11 +165,14 @@ kept_on old mid new most kept (reply, call) =
 adds_none : (command : Command) (texts : TextPaths) (status : Status) (payload : List ℕ) → text_paths command ≡ Some texts → told_added (Some command) status payload ≡ []
 adds_none (asked.Add size) texts status payload is = absurd (cc)
 adds_none asked.Run texts status payload is = refl
+adds_none (asked.RunSome more) texts status payload is = refl
 adds_none (asked.Ask question) texts status payload is = refl
 adds_none (asked.Query size) texts status payload is = refl
 adds_none (asked.Write paths) texts status payload is = refl
 adds_none (asked.Axiom number) texts status payload is = refl
 adds_none asked.Status texts status payload is = refl
+adds_none asked.Unsatisfiable texts status payload is = refl
+adds_none asked.Version texts status payload is = refl
 
 -- the calls by which a session is run on come before others
 run_on_before : (limits : Limits) (old mid new : Opened) (xs : List Exchange) → IsRunOn limits old mid → AreCallsOf mid xs new → AreCallsOf old xs new
@@ -198,7 +202,9 @@ one_answered known told document None old mid new x xs command is paths step h =
 
 one_more : (known told : Bool) (document : Bor (List ℕ)) (old mid : Filed) (new : Opened) (x : Exchange) (xs : List Exchange) (command : Option Command) → x.command ≡ command
     → IsAnswered (filing_service known told document) old command x.payload x.reply mid → AreCallsOf mid.service.session xs new → AreCallsOf old.service.session (x ∷ xs) new
-one_more known told document old mid new x xs (Some command) is answered h = one_answered known told document (text_paths command) old mid new x xs command is refl answered h
+one_more known told document old mid new x xs (Some command) is (inl (room, answered)) h = one_answered known told document (text_paths command) old mid new x xs command is refl answered h
+one_more known told document old mid new x xs (Some command) is (inr (more, tells, same)) h =
+    unasked old.service.session mid.service.session new x xs (ap (λ (s : Filed). s.service.session) same) (passed_adds_none _ x.command x.payload x.reply tells) h
 one_more known told document old mid new x xs None is (tells, same) h =
     let P : Option Command → Type 0 = λ c. told_added c x.reply.status x.payload ≡ [] in
     unasked old.service.session mid.service.session new x xs (ap (λ (s : Filed). s.service.session) same) (subst P (sym is) refl) h

@@ -1,6 +1,7 @@
 -- What a run of `classify` leaves in files is accepted by a run of `check`; and which runs words ask for.
 use Rattle.std.proofs.Common.{◌≡◌, ◌∙◌, ℕ, List, Bool, Option, Result, Ok, Err, Some, true, false, codes, refl, sym, ap, subst, inl, inr}
 use Rattle.std.specs.Prelude.{◌||◌, bytes_eq}
+use Rattle.std.specs.Borrow.{Bor}
 use Rattle.lemmas.proofs.Choices.{one_value}
 use Rattle.cert_check.specs.declared.verdict.Verdict.{Verdict}
 use Rattle.cert_check.specs.declared.verdict.Verdict.TheVariants.{Accepted}
@@ -10,7 +11,7 @@ use Rattle.clap.specs.Words.{Row, Text, takes}
 use Rattle.command_line.proofs.Numbers.{one_number}
 use Rattle.command_line.specs.CommandLine.{AreLimits, ArePaths, IsCommand, IsFormat, IsLimitOfFacts, IsQuestion, IsTaskOf, IsFlag, IsTelling, IsVersion, Refuses, draws_facts, elc_app, format_number, tells_progress, version_number}
 use Rattle.command_line.specs.declared.tasks.Command.{Command}
-use Rattle.command_line.specs.declared.tasks.Command.TheVariants.{Ask, Check, Classify, Convert, Query, Session}
+use Rattle.command_line.specs.declared.tasks.Command.TheVariants.{Ask, Check, Classify, Convert, Query, Restrict, Session}
 use Rattle.command_line.specs.declared.tasks.FormatNumber.{FormatNumber}
 use Rattle.command_line.specs.declared.tasks.FormatNumber.TheVariants as numbers
 use Rattle.command_line.specs.declared.tasks.LineFault.{LineFault}
@@ -140,28 +141,32 @@ same_format numbers.Two numbers.One e = let bad : 2 ≡ 1 = e in absurd (cc)
 one_format : (rows : List Row) (v w : FormatNumber) → IsFormat rows v → IsFormat rows w → v ≡ w
 one_format rows v w h k = same_format v w (one_number _ _ _ _ h k)
 
--- whether the name is one of these two
-abbrev is_one_of_two : Text → Bool
-is_one_of_two name = bytes_eq name (codes "classify") || bytes_eq name (codes "check")
+-- whether the name is one of these three
+abbrev is_one_of_three : Text → Bool
+is_one_of_three name = bytes_eq name (codes "classify") || bytes_eq name (codes "check") || bytes_eq name (codes "restrict")
+
+abbrev is_restriction : Text → Bool
+is_restriction name = bytes_eq name (codes "restrict")
 
 -- that of a question is none of them
-asks : (name : Text) (rows : List Row) (question : Question) → IsQuestion name rows question → is_one_of_two name ≡ false
-asks name rows (Names Superclasses class) is = ap is_one_of_two is.0
-asks name rows (Names Subclasses class) is = ap is_one_of_two is.0
-asks name rows (Names Equivalents class) is = ap is_one_of_two is.0
-asks name rows (Names Instances class) is = ap is_one_of_two is.0
-asks name rows (Groups Above class) is = ap is_one_of_two is.0
-asks name rows (Groups Below class) is = ap is_one_of_two is.0
-asks name rows (Why asked class shown) is = ap is_one_of_two is.0
+asks : (name : Text) (rows : List Row) (question : Question) → IsQuestion name rows question → is_one_of_three name ≡ false
+asks name rows (Names Superclasses class) is = ap is_one_of_three is.0
+asks name rows (Names Subclasses class) is = ap is_one_of_three is.0
+asks name rows (Names Equivalents class) is = ap is_one_of_three is.0
+asks name rows (Names Instances class) is = ap is_one_of_three is.0
+asks name rows (Groups Above class) is = ap is_one_of_three is.0
+asks name rows (Groups Below class) is = ap is_one_of_three is.0
+asks name rows (Why asked class shown) is = ap is_one_of_three is.0
 
 -- a command of the name `classify` is a classification
 is_classify : (name : Text) (rows : List Row) (command : Command) → name ≡ codes "classify" → IsCommand name rows command → (paths : Paths) × (number : FormatNumber) × (command ≡ Classify paths number)
 is_classify name rows (Classify paths number) is is' = (paths, number, refl)
 is_classify name rows (Check paths) is is' = let bad : codes "classify" ≡ codes "check" = sym is ∙ is'.0 in absurd (cc)
-is_classify name rows (Convert conversion) is is' = let bad : true ≡ false = sym (ap is_one_of_two is) ∙ ap is_one_of_two is'.0 in absurd (cc)
-is_classify name rows (Ask document question) is is' = let bad : true ≡ false = sym (ap is_one_of_two is) ∙ asks name rows question is'.1 in absurd (cc)
-is_classify name rows (Query document expression) is is' = let bad : true ≡ false = sym (ap is_one_of_two is) ∙ ap is_one_of_two is'.0 in absurd (cc)
-is_classify name rows (Session document) is is' = let bad : true ≡ false = sym (ap is_one_of_two is) ∙ ap is_one_of_two is'.0 in absurd (cc)
+is_classify name rows (Convert conversion) is is' = let bad : true ≡ false = sym (ap is_one_of_three is) ∙ ap is_one_of_three is'.0 in absurd (cc)
+is_classify name rows (Restrict document output) is is' = let bad : false ≡ true = sym (ap is_restriction is) ∙ ap is_restriction is'.0 in absurd (cc)
+is_classify name rows (Ask document question) is is' = let bad : true ≡ false = sym (ap is_one_of_three is) ∙ asks name rows question is'.1 in absurd (cc)
+is_classify name rows (Query document expression) is is' = let bad : true ≡ false = sym (ap is_one_of_three is) ∙ ap is_one_of_three is'.0 in absurd (cc)
+is_classify name rows (Session document) is is' = let bad : true ≡ false = sym (ap is_one_of_three is) ∙ ap is_one_of_three is'.0 in absurd (cc)
 
 -- what a run of a command says that the words of `classify` ask for
 classify_run : (told : Bool) (name : Text) (rows : List Row) (paths : Paths) (number : FormatNumber) (command : Command) (limits : Limits) (s : Store) (content content' : Content) (old new : Output) (status : ℕ) → IsCommand name rows (Classify paths number) → IsCommand name rows command → IsCommandRun told command limits s content content' old new status → (paths' : Paths) × (format : Format) × AreSamePaths paths paths' × IsClassifyRun paths' format limits s content content' old new status × (format ≡ format_of number)
@@ -176,10 +181,11 @@ classify_run told name rows paths number command limits s content content' old n
 is_check : (name : Text) (rows : List Row) (command : Command) → name ≡ codes "check" → IsCommand name rows command → (paths : Paths) × (command ≡ Check paths)
 is_check name rows (Check paths) is is' = (paths, refl)
 is_check name rows (Classify paths number) is is' = let bad : codes "check" ≡ codes "classify" = sym is ∙ is'.0 in absurd (cc)
-is_check name rows (Convert conversion) is is' = let bad : true ≡ false = sym (ap is_one_of_two is) ∙ ap is_one_of_two is'.0 in absurd (cc)
-is_check name rows (Ask document question) is is' = let bad : true ≡ false = sym (ap is_one_of_two is) ∙ asks name rows question is'.1 in absurd (cc)
-is_check name rows (Query document expression) is is' = let bad : true ≡ false = sym (ap is_one_of_two is) ∙ ap is_one_of_two is'.0 in absurd (cc)
-is_check name rows (Session document) is is' = let bad : true ≡ false = sym (ap is_one_of_two is) ∙ ap is_one_of_two is'.0 in absurd (cc)
+is_check name rows (Convert conversion) is is' = let bad : true ≡ false = sym (ap is_one_of_three is) ∙ ap is_one_of_three is'.0 in absurd (cc)
+is_check name rows (Restrict document output) is is' = let bad : codes "check" ≡ codes "restrict" = sym is ∙ is'.0 in absurd (cc)
+is_check name rows (Ask document question) is is' = let bad : true ≡ false = sym (ap is_one_of_three is) ∙ asks name rows question is'.1 in absurd (cc)
+is_check name rows (Query document expression) is is' = let bad : true ≡ false = sym (ap is_one_of_three is) ∙ ap is_one_of_three is'.0 in absurd (cc)
+is_check name rows (Session document) is is' = let bad : true ≡ false = sym (ap is_one_of_three is) ∙ ap is_one_of_three is'.0 in absurd (cc)
 
 -- what a run of a command says that the words of `check` ask for
 check_run : (told : Bool) (name : Text) (rows : List Row) (paths : Paths) (command : Command) (limits : Limits) (s : Store) (content content' : Content) (old new : Output) (status : ℕ) → IsCommand name rows (Check paths) → IsCommand name rows command → IsCommandRun told command limits s content content' old new status → (paths' : Paths) × AreSamePaths paths paths' × IsCheckRun paths' limits.version limits.max_bytes s content old new status × (tells_progress command ≡ true)
@@ -190,6 +196,16 @@ check_run told name rows paths command limits s content content' old new status 
     let here : IsCommand name rows (Check found.0) = subst Of found.1 is' in
     (found.0, same_paths rows paths found.0 is.1 here.1, subst Run found.1 run, ap tells_progress found.1)
 
+-- a command of the name `restrict` is a restriction
+pub is_restrict : (name : Text) (rows : List Row) (command : Command) → name ≡ codes "restrict" → IsCommand name rows command → (document : Bor (List ℕ)) × (output : Bor (List ℕ)) × (command ≡ Restrict document output)
+is_restrict name rows (Restrict document output) is is' = (document, output, refl)
+is_restrict name rows (Classify paths number) is is' = let bad : true ≡ false = sym (ap is_restriction is) ∙ ap is_restriction is'.0 in absurd (cc)
+is_restrict name rows (Check paths) is is' = let bad : codes "restrict" ≡ codes "check" = sym is ∙ is'.0 in absurd (cc)
+is_restrict name rows (Convert conversion) is is' = let bad : true ≡ false = sym (ap is_one_of_three is) ∙ ap is_one_of_three is'.0 in absurd (cc)
+is_restrict name rows (Ask document question) is is' = let bad : true ≡ false = sym (ap is_one_of_three is) ∙ asks name rows question is'.1 in absurd (cc)
+is_restrict name rows (Query document expression) is is' = let bad : true ≡ false = sym (ap is_one_of_three is) ∙ ap is_one_of_three is'.0 in absurd (cc)
+is_restrict name rows (Session document) is is' = let bad : true ≡ false = sym (ap is_one_of_three is) ∙ ap is_one_of_three is'.0 in absurd (cc)
+
 same_version : (v w : Version) → version_number v ≡ version_number w → v ≡ w
 same_version One One e = refl
 same_version Two Two e = refl
@@ -197,7 +213,7 @@ same_version One Two e = let bad : 1 ≡ 2 = e in absurd (cc)
 same_version Two One e = let bad : 2 ≡ 1 = e in absurd (cc)
 
 -- an option has one version
-one_version : (rows : List Row) (v w : Version) → IsVersion rows v → IsVersion rows w → v ≡ w
+pub one_version : (rows : List Row) (v w : Version) → IsVersion rows v → IsVersion rows w → v ≡ w
 one_version rows v w h k = same_version v w (one_number _ _ _ _ h k)
 
 -- a flag stands or does not
@@ -208,23 +224,18 @@ one_flag id rows true false h k = let bad : codes "true" ≡ codes "false" = one
 one_flag id rows false true h k = let bad : codes "false" ≡ codes "true" = one_value _ _ _ h k in cc
 
 -- the words name one command and its matches, of whatever task is asked about them
-record IsNamed (name : Text) (rows : List Row) (command : Command) (task : Task) : Type 0 where
-  is : IsCommand name rows command
-  limits : AreLimits rows command task.limits
-  progress : IsTelling (tells_progress command) rows task.progress
+pub record IsNamed (name : Text) (rows : List Row) (command : Command) (task : Task) : Type 0 where
+  pub is : IsCommand name rows command
+  pub limits : AreLimits rows command task.limits
+  pub progress : IsTelling (tells_progress command) rows task.progress
 
-named : (words : List Text) (task other : Task) (command : Command) (of : IsTaskOf words other) → IsTaskOf words task → task.command ≡ command → IsNamed of.name of.rows command task
+pub named : (words : List Text) (task other : Task) (command : Command) (of : IsTaskOf words other) → IsTaskOf words task → task.command ≡ command → IsNamed of.name of.rows command task
 named words task other command of is same =
     let P : Text × List Row → Type 0 = λ p. IsNamed p.0 p.1 command task in
     let Q : Command → Type 0 = λ k. IsNamed is.name is.rows k task in
     subst P (one_value _ _ _ is.found of.found) (subst Q same (record { is = is.is.command; limits = is.is.limits; progress = is.is.progress }))
 
 -- ---- the run that the words ask for
-
--- words that are refused end with another status than 0
-pub line_not_done : (fault : LineFault) (old new : Device) → IsLineTold fault old new (code_of statuses.Done) → ⊥
-line_not_done (line.Line error) old new h = told_not_done old new _ statuses.Usage (λ e. cc) h
-line_not_done line.Memory old new h = told_not_done old new _ statuses.Memory (λ e. cc) h
 
 -- the run of a check that the words ask for
 pub checked : (words : List Text) (task other : Task) (paths : Paths) (s : Store) (content content' : Content) (old new : Output) (status : ℕ) → IsTaskOf words task → task.command ≡ Check paths → IsTaskOf words other → IsCommandRun other.progress other.command other.limits s content content' old new status → (paths' : Paths) × AreSamePaths paths paths' × IsCheckRun paths' task.limits.version task.limits.max_bytes s content old new status × (other.progress ≡ task.progress)
@@ -237,7 +248,7 @@ checked words task other paths s content content' old new status of is of' run =
     (made.0, made.1, subst Q (one_version _ _ _ of'.is.limits.version here.limits.version) (subst P (one_number _ _ _ _ of'.is.limits.bytes.number here.limits.bytes.number) made.2), one_flag (codes "progress") of'.rows other.progress task.progress (subst R made.3 of'.is.progress) here.progress)
 
 -- words that clap takes are refused only for want of memory, which is told
-refused_told : (words : List Text) (task : Task) (fault : LineFault) (old new : Device) (status : ℕ) → IsTaskOf words task → takes elc_app words ≡ true → Refuses words fault → IsLineTold fault old new status → IsLineTold line.Memory old new status
+pub refused_told : (words : List Text) (task : Task) (fault : LineFault) (old new : Device) (status : ℕ) → IsTaskOf words task → takes elc_app words ≡ true → Refuses words fault → IsLineTold fault old new status → IsLineTold line.Memory old new status
 refused_told words task (line.Line error) old new status of taken refuses told = absurd (refuses taken task of)
 refused_told words task line.Memory old new status of taken refuses told = told
 

@@ -11,9 +11,11 @@ pub mod SomeTexts
 pub mod Left
 pub mod Filed
 pub mod Converted
+pub mod Restricted
 pub mod WrittenAccepted
 pub mod FilesAccepted
 pub mod EveryDocument
 pub mod AcceptedRight
 pub mod FilesRight
+pub mod RestrictedRuns
 pub mod SpokenSessions

@@ -53,11 +53,11 @@ all_asked ahead rest then after is last =
     let gone = nothing_left rest after.left comes.read (subst P is comes.given.consumed) (no_back ahead comes.read none) last.end in
     ap (λ (front : List ℕ). front ++ rest) (no_front ahead comes.read none) ∙ gone
 
-told_behind : (room : ℕ) (xs : List Exchange) (ahead rest : List ℕ) (then after : SourceState) (sink sink' : Device) (ending : Ending) → then.left ≡ Some rest → IsEndBehind room xs ahead then after sink sink' ending → AreRepliesTold xs (ahead ++ rest) sink sink' ending
-told_behind room xs ahead rest then after sink sink' endings.End is (last, takes) = (all_asked ahead rest then after is last, takes)
-told_behind room xs ahead rest then after sink sink' (endings.Refused fault) is (refused, takes) = takes
-told_behind room xs ahead rest then after sink sink' endings.Unwritten is (inl (same, fails)) = inl fails
-told_behind room xs ahead rest then after sink sink' endings.Unwritten is (inr (fault, refused, fails)) = inr (fault, fails)
+told_behind : (xs : List Exchange) (ahead rest : List ℕ) (then after : SourceState) (sink sink' : Device) (ending : Ending) → then.left ≡ Some rest → IsEndBehind xs ahead then after sink sink' ending → AreRepliesTold xs (ahead ++ rest) sink sink' ending
+told_behind xs ahead rest then after sink sink' endings.End is (last, takes) = (all_asked ahead rest then after is last, takes)
+told_behind xs ahead rest then after sink sink' (endings.Refused fault) is (refused, takes) = takes
+told_behind xs ahead rest then after sink sink' endings.Unwritten is (inl (same, fails)) = inl fails
+told_behind xs ahead rest then after sink sink' endings.Unwritten is (inr (fault, refused, fails)) = inr (fault, fails)
 
 -- ---- the law
 
@@ -82,6 +82,6 @@ sessions_are_answered told document limits s content content' old new status byt
       calls = calls_of s.is_known told document before behind e.xs e.run;
       document = one_document s.is_known told document limits.version bytes before behind e.xs over e.run;
       ending = is.ending;
-      told = told_behind (service.room behind) e.xs e.ahead there.0 e.then is.after old.out new.out is.ending there.1 e.end;
+      told = told_behind e.xs e.ahead there.0 e.then is.after old.out new.out is.ending there.1 e.end;
       status_is = is.status_is;
     }

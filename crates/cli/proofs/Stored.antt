@@ -129,7 +129,7 @@ sink_holds known old new held held' text fresh some takes left = holds known hel
 pub sink_begins : (known : Bool) (old new : Device) (held held' : Option (List ℕ)) (text : List ℕ) → old.0 ≡ nothing_taken known → FailsIn old new text → IsLeftBy held held' new.0 → HoldsPrefix known held held' text
 sink_begins known old new held held' text fresh fails left = holds_prefix known held held' new.0 text fails.0.0 left (taken_text known old.0 new.0 (take fails.0.0 text) fresh fails.0.1)
 
-sink_stays : (known : Bool) (old new : Device) (held held' : Option (List ℕ)) → old.0 ≡ nothing_taken known → new ≡ old → IsLeftBy held held' new.0 → Stays known held held'
+pub sink_stays : (known : Bool) (old new : Device) (held held' : Option (List ℕ)) → old.0 ≡ nothing_taken known → new ≡ old → IsLeftBy held held' new.0 → Stays known held held'
 sink_stays known old new held held' fresh same left = stays_left known held held' new.0 left (ap (λ (d : Device). d.0) same ∙ fresh)
 
 pub texts_held : (known : Bool) (paths : Paths) (old new : Sinks) (texts : Texts) (content content' : Content) → AreSome texts → AreNew known old → AreWritten old new texts → AreSinksClosed paths new content content' → AreApart paths → HoldTexts known paths texts content'

@@ -12,6 +12,8 @@ use Rattle.cli.specs.declared.fault.ClassifyFault.{ClassifyFault}
 use Rattle.cli.specs.declared.fault.ClassifyFault.TheVariants as classifying
 use Rattle.cli.specs.declared.fault.ConversionFault.{ConversionFault}
 use Rattle.cli.specs.declared.fault.ConversionFault.TheVariants.{Certificate, Document, Unread}
+use Rattle.cli.specs.declared.fault.RestrictionFault.{RestrictionFault}
+use Rattle.cli.specs.declared.fault.RestrictionFault.TheVariants as restricting
 use Rattle.device.specs.Device.{HasFailed}
 use Rattle.profile.specs.declared.fault.DocumentFault.{DocumentFault}
 use Rattle.profile.specs.declared.fault.DocumentFault.TheVariants.{Io, Memory}
@@ -113,3 +115,9 @@ ConvertsFiles s content c (Err Unread) =
     IsThere s.is_known (content c.document.now) × IsUnreadable s.reads_fail s.is_known (content c.certificate.now) × NoWriteFails s
 ConvertsFiles s content c (Err (Certificate converting.Memory)) = IsThere s.is_known (content c.document.now) × NoWriteFails s
 ConvertsFiles s content c (Err (Certificate fault)) = AreBothThere s.is_known content c × BlamesWrites s fault
+
+-- what an answer of a restriction says of the document's file, and of the writes that failed
+abbrev pub RestrictsFile : {X : Type 0} → Store → Option (List ℕ) → Result X RestrictionFault → Type 0
+RestrictsFile s held (Ok x) = IsThere s.is_known held × NoWriteFails s
+RestrictsFile s held (Err (restricting.Document fault)) = BlamesFile s.reads_fail s.is_known held fault × NoWriteFails s
+RestrictsFile s held (Err restricting.Unwritten) = IsThere s.is_known held × SomeWriteFails s

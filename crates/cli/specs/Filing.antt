@@ -21,8 +21,8 @@ use Rattle.session.specs.Edits.{Reply, IsCall, IsOneDocument, IsSessionOver, Res
 use Rattle.session.specs.Progress.{IsProgress}
 use Rattle.session.specs.Sessions.{IsSession, Opened}
 use Rattle.session.specs.WrittenTexts.{Texts}
-use Rattle.session.specs.declared.fault.TextFault.{TextFault}
-use Rattle.session.specs.declared.fault.TextFault.TheVariants.{Io, Memory, Unfinished}
+use Rattle.session.specs.declared.fault.WritingFault.{WritingFault}
+use Rattle.session.specs.declared.fault.WritingFault.TheVariants.{Io, Memory, Unfinished}
 use Rattle.speech.specs.Answers.{IsServed, session_service, unfinished}
 use Rattle.speech.specs.Commands.{text_paths}
 use Rattle.speech.specs.Conversations.{AreExchanges, Exchange}
@@ -43,7 +43,7 @@ abbrev pub AllStay : Bool → (content content' : Content) → Type 0
 AllStay known content content' = (path : List ℕ) → Stays known (content path) (content' path)
 
 -- what an answer says of the texts of a session that are written into files: each path holds its text; or why not, and what the files hold then
-abbrev pub IsTextsAnswer : Paths → Format → (known : Bool) → Opened → (content content' : Content) → Result Summary TextFault → Type 0
+abbrev pub IsTextsAnswer : Paths → Format → (known : Bool) → Opened → (content content' : Content) → Result Summary WritingFault → Type 0
 IsTextsAnswer paths format known s content content' (Ok summary) = (texts : Texts) × IsMade s format summary texts × (AreApart paths → HoldTexts known paths texts content')
 IsTextsAnswer paths format known s content content' (Err Unfinished) = ¬ IsFinished s.saturation × AllStay known content content'
 IsTextsAnswer paths format known s content content' (Err Memory) = AllStay known content content'
@@ -51,12 +51,12 @@ IsTextsAnswer paths format known s content content' (Err (Io n)) =
     (1 ≤ n) × (n ≤ 3) × ((summary : Summary) × (texts : Texts) × IsMade s format summary texts × (AreApart paths → HoldTextsUntil n known paths texts content content'))
 
 -- a write failed only where that is the answer
-abbrev pub BlamesTexts : (failed_before failed_behind : ℕ) → Result Summary TextFault → Type 0
+abbrev pub BlamesTexts : (failed_before failed_behind : ℕ) → Result Summary WritingFault → Type 0
 BlamesTexts before behind (Err (Io n)) = HasFailed before behind
 BlamesTexts before behind answer = behind ≡ before
 
 -- the answer is that of a session whose texts are written into files, no other file is written, and a write is blamed only where one failed
-pub record AreTextsFiled (paths : Paths) (format : Format) (known : Bool) (s : Opened) (content content' : Content) (failed_before failed_behind : ℕ) (answer : Result Summary TextFault) : Type 0 where
+pub record AreTextsFiled (paths : Paths) (format : Format) (known : Bool) (s : Opened) (content content' : Content) (failed_before failed_behind : ℕ) (answer : Result Summary WritingFault) : Type 0 where
   pub answered : IsTextsAnswer paths format known s content content' answer
   pub blames : BlamesTexts failed_before failed_behind answer
   pub others : AreOthersKept paths content content'
@@ -68,7 +68,7 @@ abbrev pub IsToldAs : Status → (text : List ℕ) → Told → Type 0
 IsToldAs status text t = (t ≡ told status text) ⊎ (t ≡ told status [])
 
 -- the line of the counts, or why the texts are not written; without memory for a reply it is not told that they are not, where they are
-abbrev pub IsTextsTold : Paths → Result Summary TextFault → Told → Type 0
+abbrev pub IsTextsTold : Paths → Result Summary WritingFault → Told → Type 0
 IsTextsTold paths (Ok summary) t = IsToldAs statuses.Done (summary_text summary) t
 IsTextsTold paths (Err Unfinished) t = (t ≡ unfinished) ⊎ (t ≡ out_of_memory)
 IsTextsTold paths (Err Memory) t = t ≡ out_of_memory
@@ -88,7 +88,7 @@ paths_of document texts = record { document = document; taxonomy = texts.taxonom
 
 -- the texts are written into the files at the paths, which is told; the session stays as it is
 pub record IsFiling (known : Bool) (paths : Paths) (old : Filed) (t : Told) (new : Filed) : Type 0 where
-  pub answer : Result Summary TextFault
+  pub answer : Result Summary WritingFault
   pub filed : AreTextsFiled paths Two known old.service.session old.content new.content old.failed_writes new.failed_writes answer
   pub told : IsTextsTold paths answer t
   pub service : new.service ≡ old.service

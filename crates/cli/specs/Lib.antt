@@ -2,6 +2,7 @@ pub mod Messages
 pub mod Classifications
 pub mod Checks
 pub mod Conversions
+pub mod Restrictions
 pub mod FileSinks
 pub mod Files
 pub mod HeldTexts

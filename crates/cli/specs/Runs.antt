@@ -1,12 +1,12 @@
 -- What a run of the program does.
-use Rattle.std.specs.Prelude.{◌≡◌, ℕ, ◌⊎◌, List, Bool, true, false, Option, Result, Ok, Err, ◌++◌, codes}
+use Rattle.std.specs.Prelude.{◌≡◌, ℕ, ◌⊎◌, List, Bool, true, false, Result, Ok, Err, ◌++◌, codes, string_bytes}
 use Rattle.certificate.specs.declared.format.Format.{Format}
 use Rattle.certificate.specs.declared.format.Format.TheVariants.{One, Two}
 use Rattle.classification.specs.declared.classification.Summary.{Summary}
 use Rattle.clap.specs.Words.{Text}
 use Rattle.command_line.specs.CommandLine.{IsTaskOf, Refuses}
 use Rattle.command_line.specs.declared.tasks.Command.{Command}
-use Rattle.command_line.specs.declared.tasks.Command.TheVariants.{Ask, Check, Classify, Convert, Query, Session}
+use Rattle.command_line.specs.declared.tasks.Command.TheVariants.{Ask, Check, Classify, Convert, Query, Restrict, Session}
 use Rattle.command_line.specs.declared.tasks.Conversion.{Conversion}
 use Rattle.command_line.specs.declared.tasks.FormatNumber.{FormatNumber}
 use Rattle.command_line.specs.declared.tasks.FormatNumber.TheVariants as numbers
@@ -17,6 +17,7 @@ use Rattle.certificate_text.specs.declared.conversion.ConvertFault.{ConvertFault
 use Rattle.certificate_text.specs.declared.conversion.ConvertFault.TheVariants as converting
 use Rattle.cli.specs.Checks.{IsCheckAnswer}
 use Rattle.cli.specs.Conversions.{IsConversionAnswer}
+use Rattle.cli.specs.Restrictions.{IsRestrictionAnswer}
 use Rattle.cli.specs.declared.fault.ConversionFault.{ConversionFault}
 use Rattle.cli.specs.declared.fault.ConversionFault.TheVariants.{Certificate, Document, Unread}
 use Rattle.profile.specs.Messages.{status_of}
@@ -25,7 +26,7 @@ use Rattle.std.specs.Fmt.{decimal}
 use Rattle.std.specs.Global.{Vec}
 use Rattle.answers.specs.Questions.{names_in}
 use Rattle.program.specs.declared.question.Question.{Question}
-use Rattle.cli.specs.Files.{AsksFile, ChecksFiles, ClassifiesFile, ConvertsFiles, Store, store}
+use Rattle.cli.specs.Files.{AsksFile, ChecksFiles, ClassifiesFile, ConvertsFiles, RestrictsFile, Store, store}
 use Rattle.cli.specs.Messages.{BehindProgress, Output, IsAnswered, IsPrinted, IsTold, cannot_write, out_of_memory, rejected_text, unconverted_text, verdict_text, verdict_status, outputs, summary_text, IsCheckText, check_status, IsClassifyText, classify_status, IsLineTold}
 use Rattle.speech.specs.Messages.{IsDocumentText, IsQuestionText, cannot_read, question_status}
 use Rattle.cli.specs.Classifications.{IsFaultOf}
@@ -37,6 +38,8 @@ use Rattle.cli.specs.declared.checking.Checked.{Checked}
 use Rattle.cli.specs.declared.fault.CheckFault.{CheckFault}
 use Rattle.cli.specs.declared.fault.ClassifyFault.{ClassifyFault}
 use Rattle.cli.specs.declared.fault.ClassifyFault.TheVariants.{Io}
+use Rattle.cli.specs.declared.fault.RestrictionFault.{RestrictionFault}
+use Rattle.cli.specs.declared.fault.RestrictionFault.TheVariants as restricting
 use Rattle.device.specs.declared.device.Sink as sinks
 use Rattle.program.specs.declared.limits.Limits.{Limits}
 use Rattle.program.specs.declared.status.Status.TheVariants as statuses
@@ -44,6 +47,7 @@ use Rattle.program.specs.declared.version.Version.{Version}
 use Rattle.session.specs.TextAnswers as asking
 use Rattle.session.specs.TextAnswers.{AnswersQuery, AnswersQuestion}
 use Rattle.session.specs.declared.question_fault.QuestionFault.{QuestionFault}
+use Rattle.statements_text.specs.declared.restriction.Restriction.{Restriction}
 use Rattle.system_files.specs.Contents.{Content}
 use Rattle.system_files.specs.declared.files.Files as files
 
@@ -141,6 +145,30 @@ pub record IsConvertRun (c : Conversion) (limits : Limits) (s : Store) (content 
   pub made : IsConversionMade c limits s content content' answer
   pub told : IsConvertTold c limits.max_bytes answer old new status
 
+-- what an answer says of the document, and of the file that is written
+abbrev pub IsRestrictAnswer : (document output : List ℕ) → Limits → (known : Bool) → (content content' : Content) → Result Restriction RestrictionFault → Type 0
+IsRestrictAnswer document output limits known content content' answer =
+    IsRestrictionAnswer limits.version limits.max_bytes (content document) (Holds known (content' output)) (HoldsPrefix known (content output) (content' output))
+    (Stays known (content output) (content' output)) answer
+
+-- the answer is that of a restriction in files, no other file is written, and a device is blamed only where it failed
+pub record IsRestrictionMade (document output : List ℕ) (limits : Limits) (s : Store) (content content' : Content) (answer : Result Restriction RestrictionFault) : Type 0 where
+  pub answered : IsRestrictAnswer document output limits s.is_known content content' answer
+  pub blames : RestrictsFile s (content document) answer
+  pub others : AreOtherFilesKept output content content'
+
+-- the report is printed; or a fault is told
+abbrev pub IsRestrictTold : (document output : List ℕ) → (bytes : ℕ) → Result Restriction RestrictionFault → (old new : Output) → (status : ℕ) → Type 0
+IsRestrictTold document output bytes (Ok restriction) old new status = IsAnswered old new (string_bytes restriction.report) statuses.Done status
+IsRestrictTold document output bytes (Err (restricting.Document fault)) old new status = (new.out ≡ old.out) × IsTold old.err new.err (IsDocumentText document bytes fault) (status_of fault) status
+IsRestrictTold document output bytes (Err restricting.Unwritten) old new status = (new.out ≡ old.out) × IsTold old.err new.err (λ text. text ≡ cannot_write output) statuses.File status
+
+-- a run of `restrict`
+pub record IsRestrictRun (document output : List ℕ) (limits : Limits) (s : Store) (content content' : Content) (old new : Output) (status : ℕ) : Type 0 where
+  pub answer : Result Restriction RestrictionFault
+  pub made : IsRestrictionMade document output limits s content content' answer
+  pub told : IsRestrictTold document output limits.max_bytes answer old new status
+
 -- what an answer says of a question about a document: the text has this property; or why there is none
 abbrev pub IsQuestionAnswer : (List ℕ → Type 0) → (QuestionFault → Type 0) → Result (Vec ℕ) QuestionFault → Type 0
 IsQuestionAnswer Answers IsFault (Ok text) = Answers text.items
@@ -171,6 +199,7 @@ abbrev pub IsCommandRun : (told : Bool) → Command → Limits → Store → (co
 IsCommandRun told (Classify paths number) limits s content content' old new status = IsClassifyRun paths (format_of number) limits s content content' old new status
 IsCommandRun told (Check paths) limits s content content' old new status = IsCheckRun paths limits.version limits.max_bytes s content old new status
 IsCommandRun told (Convert conversion) limits s content content' old new status = IsConvertRun conversion limits s content content' old new status
+IsCommandRun told (Restrict document output) limits s content content' old new status = IsRestrictRun document.now output.now limits s content content' old new status
 IsCommandRun told (Ask document question) limits s content content' old new status = IsAskRun document.now question limits s content old new status
 IsCommandRun told (Query document expression) limits s content content' old new status = IsQueryRun document.now expression.now limits s content old new status
 IsCommandRun told (Session document) limits s content content' old new status = IsSessionRun told document limits s content content' old new status
@@ -181,10 +210,11 @@ IsPerformed words s content content' old new status =
     ((task : Task) × IsTaskOf words task × BehindProgress task.progress old (λ begun. IsCommandRun task.progress task.command task.limits s content content' begun new status))
     ⊎ ((fault : LineFault) × Refuses words fault × (new.out ≡ old.out) × IsLineTold fault old.err new.err status)
 
--- a classification, a conversion and a session write files
+-- a classification, a conversion, a restriction and a session write files
 abbrev pub writes_files : Command → Bool
 writes_files (Classify paths number) = true
 writes_files (Convert conversion) = true
+writes_files (Restrict document output) = true
 writes_files (Session document) = true
 writes_files command = false
 

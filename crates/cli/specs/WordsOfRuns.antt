@@ -1,12 +1,13 @@
 -- Which run of a command words of the program ask for.
 use Rattle.std.specs.Prelude.{◌≡◌, ◌⊎◌, ℕ, List, true}
+use Rattle.std.specs.Borrow.{Bor}
 use Rattle.clap.specs.Words.{Text, takes}
 use Rattle.cli.specs.Files.{Store}
 use Rattle.cli.specs.Messages.{BehindProgress, Output, IsLineTold}
-use Rattle.cli.specs.Runs.{IsCheckRun, IsClassifyRun, IsPerformed, format_of}
+use Rattle.cli.specs.Runs.{IsCheckRun, IsClassifyRun, IsPerformed, IsRestrictRun, format_of}
 use Rattle.cli.specs.Theorems.{AreSamePaths}
 use Rattle.command_line.specs.CommandLine.{IsTaskOf, elc_app}
-use Rattle.command_line.specs.declared.tasks.Command.TheVariants.{Check, Classify}
+use Rattle.command_line.specs.declared.tasks.Command.TheVariants.{Check, Classify, Restrict}
 use Rattle.command_line.specs.declared.tasks.FormatNumber.{FormatNumber}
 use Rattle.command_line.specs.declared.tasks.LineFault.TheVariants as line
 use Rattle.command_line.specs.declared.tasks.Paths.{Paths}
@@ -35,4 +36,12 @@ WordsOfClassifyClassify =
     (words : List Text) (task : Task) (paths : Paths) (number : FormatNumber) (s : Store) (content content' : Content) (old new : Output) (status : ℕ) →
     IsTaskOf words task → task.command ≡ Classify paths number → takes elc_app words ≡ true → IsPerformed words s content content' old new status →
     BehindProgress task.progress old (λ begun. (paths' : Paths) × (limits : Limits) × AreSamePaths paths paths' × AreSameLimits limits task.limits × IsClassifyRun paths' (format_of number) limits s content content' begun new status)
+    ⊎ ((new.out ≡ old.out) × IsLineTold line.Memory old.err new.err status)
+
+-- and one whose words ask for a restriction of the document at the one path into the file at the other is a run of `restrict` on these
+abbrev pub WordsOfRestrictRestrict : Type 0
+WordsOfRestrictRestrict =
+    (words : List Text) (task : Task) (document output : Bor (List ℕ)) (s : Store) (content content' : Content) (old new : Output) (status : ℕ) →
+    IsTaskOf words task → task.command ≡ Restrict document output → takes elc_app words ≡ true → IsPerformed words s content content' old new status →
+    BehindProgress task.progress old (λ begun. (limits : Limits) × AreSameLimits limits task.limits × IsRestrictRun document.now output.now limits s content content' begun new status)
     ⊎ ((new.out ≡ old.out) × IsLineTold line.Memory old.err new.err status)

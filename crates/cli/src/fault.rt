@@ -1,4 +1,4 @@
-//! Why a document is not classified or checked, or its certificate not converted.
+//! Why a document is not classified, checked or restricted, or its certificate not converted.
 
 use certificate_text::ConvertFault;
 use profile::DocumentFault;
@@ -35,6 +35,17 @@ pub enum CheckFault {
     /// document, the first, is told inside `Document`.) Those before it were read to their ends, those behind it not at all.
     #[error("source {0} failed")]
     Io(usize),
+}
+
+/// Why what of a document is of the profile was not written.
+#[derive(Debug, Drop, Error)]
+pub enum RestrictionFault {
+    /// The document was not read, or too many names of it are kept. Nothing is written.
+    #[error(transparent)]
+    Document(DocumentFault),
+    /// The sink failed. It has taken a prefix of the text.
+    #[error("the text's sink failed")]
+    Unwritten,
 }
 
 /// Why a certificate of a document was not converted.

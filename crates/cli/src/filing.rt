@@ -18,7 +18,7 @@ use classification::Summary;
 use command_line::Paths;
 use device::{BufferSink, Memory, Sink, Source};
 use program::Status;
-use session::{Session, TextFault, tell_drawn};
+use session::{Session, WritingFault, tell_drawn};
 use speech::{
     Command, Ending, Reply, Service, SessionService, TextPaths, converse, unfinished_reply,
 };
@@ -31,13 +31,13 @@ fn file_texts<F: Files>(
     files: &mut F,
     session: &Session,
     paths: &Paths<'_>,
-) -> Result<Summary, TextFault>
+) -> Result<Summary, WritingFault>
     ensures filed { AreTextsFiled paths.now Two (F.is_known files.old) session.now (F.content files.old) (F.content files.new)
         (F.failed_writes files.old) (F.failed_writes files.new) result }
     ensures known { F.is_known files.new ≡ F.is_known files.old }
 {
     let Ok(mut sinks) = sinks_of(files, paths) else {
-        return Err(TextFault::Memory);
+        return Err(WritingFault::Memory);
     };
     let written = session.write(
         &mut sinks.taxonomy,
@@ -87,16 +87,16 @@ fn unwritten_reply(alloc: Global, path: &str) -> Reply
 /// The reply that the texts are written into the files at the paths, or why not.
 fn filed_reply(
     alloc: Global,
-    answer: Result<Summary, TextFault>,
+    answer: Result<Summary, WritingFault>,
     paths: &Paths<'_>,
 ) -> Result<Reply, Memory>
     ensures { IsTextsTold paths.now answer (told_by result) }
 {
     match answer {
         Ok(summary) => Ok(counted_reply(alloc, &summary)),
-        Err(TextFault::Unfinished) => unfinished_reply(alloc),
-        Err(TextFault::Memory) => Err(Memory),
-        Err(TextFault::Io(number)) => Ok(unwritten_reply(alloc, written_path(paths, number))),
+        Err(WritingFault::Unfinished) => unfinished_reply(alloc),
+        Err(WritingFault::Memory) => Err(Memory),
+        Err(WritingFault::Io(number)) => Ok(unwritten_reply(alloc, written_path(paths, number))),
     }
 }
 

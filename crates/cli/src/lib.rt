@@ -3,8 +3,8 @@
 
 ghost use Rattle.cli.specs.Filing.{FiledConversationsAreCalls, FiledConversationsAreOneDocument};
 ghost use Rattle.cli.specs.SpokenSessions.{SpokenSessionsAreAnswered};
-ghost use Rattle.cli.specs.Theorems.{AcceptedFilesAreRight, AcceptedTextsAreRight, EveryDocumentIsClassified, ReadDocumentsAreNoStop, WhatIsWrittenIsAccepted, WrittenFilesAreAccepted};
-ghost use Rattle.cli.specs.WordsOfRuns.{WordsOfCheckCheck, WordsOfClassifyClassify};
+ghost use Rattle.cli.specs.Theorems.{AcceptedFilesAreRight, AcceptedTextsAreRight, EveryDocumentIsClassified, ReadDocumentsAreNoStop, WhatIsRestricted, WhatIsWrittenIsAccepted, WrittenFilesAreAccepted};
+ghost use Rattle.cli.specs.WordsOfRuns.{WordsOfCheckCheck, WordsOfClassifyClassify, WordsOfRestrictRestrict};
 
 mod asking;
 mod checking;
@@ -15,6 +15,7 @@ mod filing;
 mod formats;
 mod printing;
 mod reading;
+mod restricting;
 mod run;
 mod sinks;
 mod slicing;
@@ -31,14 +32,16 @@ pub use classification::Summary;
 pub use classifying::classify_document;
 pub use command_line::{Command, Conversion, FormatNumber, LineFault, Paths, Task, task};
 pub use converting::convert_certificate;
-pub use fault::{CheckFault, ClassifyFault, ConversionFault};
+pub use fault::{CheckFault, ClassifyFault, ConversionFault, RestrictionFault};
 pub use profile::{DocumentFault, Limits, Version, read_document};
+pub use restricting::restrict_document;
 pub use run::perform;
 pub use session::{
     Answer, Answers, AskFault, Asked, Explanation, Interpretation, Line, QueryFault, Question,
-    QuestionFault, Related, Session, Shown, Side, Stop, TextFault, query_text, question_text,
+    QuestionFault, Related, Session, Shown, Side, Stop, WritingFault, query_text, question_text,
 };
 pub use starting::start;
+pub use statements_text::Restriction;
 pub use system_files::Files;
 
 /// Every document of the profile is classified: where its bytes are within the limit and read as an ontology in the version
@@ -77,11 +80,20 @@ pub fn accepted_files_are_right()
     ensures { AcceptedFilesAreRight }
 {}
 
-/// A run of `perform` whose words ask for a check, or for a classification, is a run of that command on the same four paths, within the
-/// limits of the words and behind its progress, unless memory is refused for reading the words.
+/// A run of `perform` whose words ask for a check, for a classification or for a restriction is a run of that command on the same paths,
+/// within the limits of the words and behind its progress, unless memory is refused for reading the words.
 pub fn words_ask_for_one_run()
     ensures check { WordsOfCheckCheck }
     ensures classify { WordsOfClassifyClassify }
+    ensures restrict { WordsOfRestrictRestrict }
+{}
+
+/// A run of `restrict` over files whose content is known that ends with status 0: its first file held the text of a document, its second
+/// holds the text of a document that reads as the ontology of what the trees of the first without faults state, and every fault of the first
+/// is printed, with how many statements are kept and how many trees are left out. Of a document without faults this is the ontology that it
+/// reads as.
+pub fn what_is_restricted()
+    ensures { WhatIsRestricted }
 {}
 
 /// Whatever is asked in a conversation with a session over files, and whatever is replied: it is calls of the session, one after the

@@ -4,7 +4,7 @@ use Rattle.std.specs.Prelude.{◌||◌, bytes_eq, codes, not}
 use Rattle.std.proofs.lemmas.Option.{same_Some}
 use Rattle.clap.specs.Words.{Row, Text}
 use Rattle.command_line.specs.declared.tasks.Command.{Command}
-use Rattle.command_line.specs.declared.tasks.Command.TheVariants.{Ask, Check, Classify, Convert, Query, Session}
+use Rattle.command_line.specs.declared.tasks.Command.TheVariants.{Ask, Check, Classify, Convert, Query, Restrict, Session}
 use Rattle.command_line.specs.declared.tasks.LineFault.{LineFault}
 use Rattle.command_line.specs.declared.tasks.LineFault.TheVariants.{Line, Memory}
 use Rattle.command_line.specs.declared.tasks.Task.{Task}
@@ -16,7 +16,7 @@ use Rattle.program.specs.declared.question.Side.TheVariants.{Above, Below}
 
 -- whether a command of that name draws facts
 abbrev draws : Text → Bool
-draws name = not (bytes_eq name (codes "check") || bytes_eq name (codes "convert"))
+draws name = not (bytes_eq name (codes "check") || bytes_eq name (codes "convert") || bytes_eq name (codes "restrict"))
 
 -- whether one of that name can be asked to tell its progress
 abbrev tells : Text → Bool
@@ -30,6 +30,7 @@ said_by : (name : Text) (rows : List Row) (command : Command) → IsCommand name
 said_by name rows (Classify paths format) is = rw is.0 (refl, refl)
 said_by name rows (Check paths) is = rw is.0 (refl, refl)
 said_by name rows (Convert conversion) is = rw is.0 (refl, refl)
+said_by name rows (Restrict document output) is = rw is.0 (refl, refl)
 said_by name rows (Ask document (Names Superclasses class)) is = rw is.1.0 (refl, refl)
 said_by name rows (Ask document (Names Subclasses class)) is = rw is.1.0 (refl, refl)
 said_by name rows (Ask document (Names Equivalents class)) is = rw is.1.0 (refl, refl)

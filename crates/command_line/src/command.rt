@@ -3,7 +3,7 @@ ghost use Rattle.std.specs.Fmt.{decimal};
 ghost use Rattle.std.specs.Prelude.{◌≡◌, ◌||◌, IfOk, IsOkAnd, false};
 ghost use Rattle.clap.specs.Words.{app_of, rule_of, with_rule, with_subcommand as app_with_subcommand};
 ghost use Rattle.clap.specs.declared.builder.command.Command.TheViews.{out-Command as fields_of};
-ghost use Rattle.command_line.specs.CommandLine.{number, path, flag, max_facts, max_bytes, format, with_reading as app_with_reading, with_paths as app_with_paths, with_names as app_with_names, with_flags as app_with_flags, with_progress as app_with_progress, with_limits as app_with_limits, with_conversion as app_with_conversion, with_certificates as app_with_certificates, with_questions as app_with_questions, with_related as app_with_related, with_sides as app_with_sides, check_app, class_app, classify_app, convert_app, explain_app, query_app, session_app, elc_app};
+ghost use Rattle.command_line.specs.CommandLine.{number, path, flag, max_facts, max_bytes, format, with_reading as app_with_reading, with_paths as app_with_paths, with_names as app_with_names, with_flags as app_with_flags, with_progress as app_with_progress, with_limits as app_with_limits, with_conversion as app_with_conversion, with_certificates as app_with_certificates, with_questions as app_with_questions, with_related as app_with_related, with_sides as app_with_sides, check_app, class_app, classify_app, convert_app, explain_app, query_app, restrict_app, session_app, elc_app};
 
 use clap::{Arg, ArgAction, Command, value_parser};
 use program::{MOST_BYTES, MOST_BYTES_TEXT, MOST_FACTS, MOST_FACTS_TEXT};
@@ -15,6 +15,7 @@ const EXAMPLES: &str = "Examples:
   elc classify food.ofn food.tax food.inst food.cert
   elc check food.ofn food.tax food.inst food.cert
   elc convert food.ofn food.cert food1.cert --format 1
+  elc restrict food.ofn kept.ofn
   elc instances food.ofn http://example.org/Pizza
   elc parents food.ofn http://example.org/Pizza
   elc explain food.ofn http://example.org/Pizza http://example.org/Food
@@ -28,6 +29,9 @@ const CLASSIFY_ABOUT: &str = "Writes the taxonomy, the instances and a certifica
 const CHECK_ABOUT: &str = "Checks the three texts of a classification against the document";
 
 const CONVERT_ABOUT: &str = "Writes a certificate again in a format, without checking its lines";
+
+const RESTRICT_ABOUT: &str =
+    "Writes what of a document is of the profile as a document, and prints what is not";
 
 const INSTANCES_ABOUT: &str = "Prints the individuals that belong to a class";
 
@@ -59,6 +63,8 @@ const INSTANCES_HELP: &str = "The file of the instances";
 const CERTIFICATE_HELP: &str = "The file of the certificate";
 
 const OUTPUT_HELP: &str = "The file to write, which may be that of the certificate";
+
+const RESTRICTED_HELP: &str = "The file to write";
 
 const CLASS_HELP: &str = "The class, by its name in full, as http://example.org/Pizza";
 
@@ -231,6 +237,16 @@ fn convert_command<'a>(alloc: Global) -> Result<Command<'a>, AllocError>
     with_reading(alloc, command)
 }
 
+fn restrict_command<'a>(alloc: Global) -> Result<Command<'a>, AllocError>
+    ensures app { IfOk result (λ c. app_of c ≡ restrict_app) }
+    ensures local { IfOk result (λ c. (fields_of c).has_globals ≡ false) }
+{
+    let command = Command::new(alloc, "restrict").about(RESTRICT_ABOUT);
+    let command = with_path(alloc, command, "DOC", DOCUMENT_HELP)?;
+    let command = with_path(alloc, command, "OUT", RESTRICTED_HELP)?;
+    with_reading(alloc, command)
+}
+
 /// The command with those that write or read certificates.
 fn with_certificates<'a>(alloc: Global, command: Command<'a>) -> Result<Command<'a>, AllocError>
     ensures app { IfOk result (λ c. app_of c ≡ app_with_certificates (app_of command.entry)) }
@@ -368,6 +384,7 @@ pub(crate) fn elc_command<'a>(alloc: Global) -> Result<Command<'a>, AllocError>
         .after_help(EXAMPLES)
         .subcommand_required(true);
     let command = with_certificates(alloc, command)?;
+    let command = with_subcommand(command, restrict_command(alloc))?;
     let command = with_questions(alloc, command)?;
     with_subcommand(command, session_command(alloc))
 }

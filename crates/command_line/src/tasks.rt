@@ -41,6 +41,12 @@ pub enum Command<'a> {
     Check(Paths<'a>),
     /// Write the certificate again.
     Convert(Conversion<'a>),
+    /// Write what of the document is of the profile.
+    Restrict {
+        document: &'a str,
+        /// The file that is written.
+        output: &'a str,
+    },
     /// Answer the question.
     Ask {
         document: &'a str,
@@ -61,7 +67,7 @@ pub enum Command<'a> {
 #[derive(Clone, Copy, PartialEq, Eq)]
 pub struct Task<'a> {
     pub command: Command<'a>,
-    /// A check and a conversion draw no facts, and have the greatest limit of them.
+    /// A check, a conversion and a restriction draw no facts, and have the greatest limit of them.
     pub limits: Limits,
     /// Only a classification, a check and a session tell it.
     pub progress: bool,

@@ -125,7 +125,7 @@ fn draws_facts(command: &Command<'_>) -> bool
     ensures { result ≡ draws command.now }
 {
     match command {
-        Command::Check(_) | Command::Convert(_) => false,
+        Command::Check(_) | Command::Convert(_) | Command::Restrict { .. } => false,
         _ => true,
     }
 }
@@ -176,6 +176,11 @@ fn named<'a>(name: &str, inner: &ArgMatches<'a>) -> Option<Command<'a>>
         }),
         "check" => Some(Command::Check(paths(inner)?)),
         "convert" => Some(Command::Convert(conversion(inner)?)),
+        "restrict" => {
+            let document = word(inner, "DOC")?;
+            let output = word(inner, "OUT")?;
+            Some(Command::Restrict { document, output })
+        }
         "query" => Some(Command::Query {
             document: word(inner, "DOC")?,
             expression: word(inner, "EXPRESSION")?,

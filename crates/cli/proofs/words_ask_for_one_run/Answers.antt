@@ -1,5 +1,6 @@
 use Rattle.cli.proofs.FilesAccepted.{words_check, words_classify}
+use Rattle.cli.proofs.RestrictedRuns.{words_restrict}
 use Rattle.cli.proofs.words_ask_for_one_run.Goals as goal
 
 pub returns : goal.returns
-returns c = record { check = words_check; classify = words_classify }
+returns c = record { check = words_check; classify = words_classify; restrict = words_restrict }

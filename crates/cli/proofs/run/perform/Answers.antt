@@ -71,3 +71,18 @@ pub returns-in-Convert-clause-untouched : goal.returns-in-Convert-clause-untouch
 returns-in-Convert-clause-untouched g c none =
     let bad : true ≡ false = sym (ap writes_files c.in-Convert.is) ∙ none c.in-Ok.task c.in-Ok.ensures.asked in
     absurd (cc)
+
+pub returns-in-Restrict-clause-performed : goal.returns-in-Restrict-clause-performed
+returns-in-Restrict-clause-performed g c =
+    let task = c.in-Ok.task in
+    let call = c.perform_restrict in
+    let old = outputs g.O.Sink g.E.Sink c.args.out.now c.args.err.now in
+    let new = outputs g.O.Sink g.E.Sink call.new.out call.new.err in
+    let files = g.F.Files in
+    let P : Command → Type 0 = λ command. IsCommandRun task.progress command task.limits (store files c.args.files.now call.new.files) (files.content c.args.files.now) (files.content call.new.files) old new call.result in
+    inl (task, c.in-Ok.ensures.asked, nothing_told task.progress old _ (subst P (sym c.in-Restrict.is) call.ensures))
+
+pub returns-in-Restrict-clause-untouched : goal.returns-in-Restrict-clause-untouched
+returns-in-Restrict-clause-untouched g c none =
+    let bad : true ≡ false = sym (ap writes_files c.in-Restrict.is) ∙ none c.in-Ok.task c.in-Ok.ensures.asked in
+    absurd (cc)

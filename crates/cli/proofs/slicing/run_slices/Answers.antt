@@ -29,5 +29,5 @@ loop-end-preserved g c =
       limits = is.limits;
       run_on = run_on old.limits c.loop-end.service.limits old.session c.loop-end.service.session c.run_slice.new.session c.loop-end.end is.limits is.run_on c.loop-end-test.true c.run_slice.ensures.call c.run_slice.ensures.session;
       kept = kept_on old.session c.loop-end.service.session c.run_slice.new.session c.loop-end.end is.kept c.run_slice.ensures.call;
-      progress = progress_behind true _ _ _ is.progress c.tell_drawn.ensures;
+      progress = progress_behind true _ _ _ is.progress c.tell_drawn.ensures.progress;
     }

@@ -31,7 +31,7 @@ pub returns-in_default : goal.returns-in_default
 returns-in_default g c = record {
   begun = outputs g.O.Sink g.E.Sink c.args.out.now c.tell_opened.new.sink;
   unprinted = refl;
-  progress = c.tell_opened.ensures;
+  progress = c.tell_opened.ensures.progress;
   holds = inr (inr (record {
     session = c.in-Ok.session;
     opened = record { read = c.in-Ok.ensures.opened; limit = c.in-Ok.ensures.limit; version = c.in-Ok.ensures.version; unserved = c.in-Ok.ensures.unserved; session = c.well_formed-2.ensures.session };
@@ -52,7 +52,7 @@ returns g c =
     record {
       begun = outputs g.O.Sink g.E.Sink c.args.out.now call.new.service.err.now;
       unprinted = refl;
-      progress = progress_behind c.args.told _ _ _ c.tell_opened.ensures call.ensures.progress;
+      progress = progress_behind c.args.told _ _ _ c.tell_opened.ensures.progress call.ensures.progress;
       holds = inl (record {
         service = service;
         last = call.new.service.service.now;

@@ -23,4 +23,4 @@ returns-clause-progress g c =
     let old = seen g.E.Sink c.args.self.now.err.now in
     let new = seen g.E.Sink c.tell_drawn.new.sink in
     let P : Bool → Type 0 = λ slices. IsProgress slices old new in
-    part_told told (is_run c.args.command) old new (subst P c.is_told_run-slices.ensures (progress_behind c.is_told_run-slices.result _ _ _ c.run_slices.ensures.progress c.tell_drawn.ensures))
+    part_told told (is_run c.args.command) old new (subst P c.is_told_run-slices.ensures (progress_behind c.is_told_run-slices.result _ _ _ c.run_slices.ensures.progress c.tell_drawn.ensures.progress))

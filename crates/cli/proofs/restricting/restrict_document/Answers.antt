@@ -1,0 +1,25 @@
+use Rattle.std.proofs.Common.{List, ℕ, refl, subst}
+use Rattle.cli.proofs.Restricted.{never_large, read_until, restricted_as, unrestricted}
+use Rattle.device.specs.Device.{AppendsPrefix}
+use Rattle.source_lines.specs.Sources.{source_state}
+use Rattle.statements_text.specs.declared.restriction.Restriction.{Restriction}
+use Rattle.cli.proofs.restricting.restrict_document.Goals as goal
+
+pub returns-in-Err-restricted-clause-answered : goal.returns-in-Err-restricted-clause-answered
+returns-in-Err-restricted-clause-answered g c =
+    (unrestricted c.args.limits.now.version c.args.limits.now.max_bytes (g.D.Source.left c.args.document.now) c.in-Ok.bytes.items c.deref.result.now c.in-Err-restricted.fault c.in-Ok.ensures.known c.in-Ok.ensures.within c.deref.ensures.value c.in-Err-restricted.ensures.refused, refl)
+
+pub returns-in-Err-restricted-clause-beyond : goal.returns-in-Err-restricted-clause-beyond
+returns-in-Err-restricted-clause-beyond g c = λ large. absurd (never_large Restriction c.args.limits.now.version c.deref.result.now c.in-Err-restricted.fault c.in-Err-restricted.ensures.refused large)
+
+pub returns-in-Err-restricted-clause-read : goal.returns-in-Err-restricted-clause-read
+returns-in-Err-restricted-clause-read g c =
+    read_until c.args.limits.now.version c.deref.result.now c.in-Err-restricted.fault (source_state g.D.Source c.args.document.now) (source_state g.D.Source c.document_bytes.new.document) c.in-Err-restricted.ensures.refused c.in-Ok.ensures.read
+
+pub returns-clause-answered : goal.returns-clause-answered
+returns-clause-answered g c =
+    let limits = c.args.limits.now in
+    let restriction = c.in-Ok-restricted.restriction in
+    let Begun : List ℕ → Type 0 = λ text. AppendsPrefix (g.S.Sink.taken c.args.output.now) (g.S.Sink.taken c.write_all.new.sink) text in
+    let is = restricted_as limits.version limits.max_bytes (g.D.Source.left c.args.document.now) c.in-Ok.bytes.items c.deref.result.now restriction c.in-Ok.ensures.known c.in-Ok.ensures.within c.deref.ensures.value c.in-Ok-restricted.ensures.restricted in
+    (restriction, is, (subst Begun c.deref-2.ensures.value c.in-Err-write_all.ensures.begun, c.in-Err-write_all.ensures.failed))
