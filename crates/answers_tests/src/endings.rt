@@ -2,6 +2,7 @@
 
 use crate::talking::is_talk;
 use speech::{Ending, InputFault};
+use std::alloc::{AllocError, Global};
 use std::hash::RandomState;
 use std::test::Fail;
 
@@ -45,38 +46,63 @@ const ROWS: &[Row] = &[
     },
     Row {
         asked: "add\n",
-        replied: "no 2 34\nno size within the limit of bytes\n",
+        replied: "no 2 8\nno size\n",
         ending: Ending::Refused(InputFault::Size),
     },
     Row {
         asked: "add x\n",
-        replied: "no 2 34\nno size within the limit of bytes\n",
+        replied: "no 2 8\nno size\n",
         ending: Ending::Refused(InputFault::Size),
     },
     Row {
         asked: "add 007\n",
-        replied: "no 2 34\nno size within the limit of bytes\n",
+        replied: "no 2 8\nno size\n",
         ending: Ending::Refused(InputFault::Size),
     },
     Row {
         asked: "add -1\n",
-        replied: "no 2 34\nno size within the limit of bytes\n",
+        replied: "no 2 8\nno size\n",
         ending: Ending::Refused(InputFault::Size),
     },
     Row {
         asked: "add 1 2\n",
-        replied: "no 2 34\nno size within the limit of bytes\n",
+        replied: "no 2 8\nno size\n",
         ending: Ending::Refused(InputFault::Size),
     },
     Row {
         asked: "query 18446744073709551616\n",
-        replied: "no 2 34\nno size within the limit of bytes\n",
+        replied: "no 2 8\nno size\n",
         ending: Ending::Refused(InputFault::Size),
     },
     Row {
         asked: "add 959\n",
-        replied: "no 2 34\nno size within the limit of bytes\n",
-        ending: Ending::Refused(InputFault::Size),
+        replied: "no 2 28\nthe input ends in a command\n",
+        ending: Ending::Refused(InputFault::Cut),
+    },
+    Row {
+        asked: "version\n",
+        replied: "ok 24\nelc session 1\nelc 0.9.0\n",
+        ending: Ending::End,
+    },
+    Row {
+        asked: "unsatisfiable\nrun\nunsatisfiable\n",
+        replied: "no 2 19\nnot run to its end\nok 8\nfacts 8\nok 40\n<http://www.w3.org/2002/07/owl#Nothing>\n",
+        ending: Ending::End,
+    },
+    Row {
+        asked: "run 1\n",
+        replied: "ok 8\nfacts 8\n",
+        ending: Ending::End,
+    },
+    Row {
+        asked: "add 17\nSubClassOf(:B :C)\nrun 1\nrun 4294967295\n",
+        replied: "ok 0\nno 5 18\nfacts 10 served 5\nok 9\nfacts 12\n",
+        ending: Ending::End,
+    },
+    Row {
+        asked: "run 0\nrun 01\nrun 4294967296\n",
+        replied: "no 2 16\nunknown command\nno 2 16\nunknown command\nno 2 16\nunknown command\n",
+        ending: Ending::End,
     },
     Row {
         asked: "addition 3\nrun\n",
@@ -126,6 +152,40 @@ fn input_is_refused(rt: HostRuntime) -> Result<(), Fail> {
             row.asked
         );
     }
+    Ok(())
+}
+
+/// Two commands with one byte more than there is room for, and behind them one that is done.
+fn asked_past_the_limit(alloc: Global) -> Result<String, AllocError> {
+    let mut asked = String::new(alloc);
+    for word in &["add", "query"] {
+        asked.push_str(*word)?;
+        asked.push_str(" 959\n")?;
+        for _ in 0..137 {
+            asked.push_str("letters")?;
+        }
+        asked.push_str("\n")?;
+    }
+    asked.push_str("run\n")?;
+    Ok(asked)
+}
+
+const TOLD_PAST_THE_LIMIT: &str =
+    "no 5 27\nlimit: more than 958 bytes\nno 5 27\nlimit: more than 958 bytes\nok 8\nfacts 8\n";
+
+#[test]
+fn more_bytes_than_there_is_room_for(rt: HostRuntime) -> Result<(), Fail> {
+    let state = RandomState::new(&rt)?;
+    let asked = asked_past_the_limit(rt.alloc())?;
+    assert!(rt;
+        is_talk(
+            rt.alloc(),
+            state,
+            asked.as_bytes(),
+            TOLD_PAST_THE_LIMIT,
+            Ending::End,
+        )
+    );
     Ok(())
 }
 

@@ -3,7 +3,7 @@
 use crate::additions::{INDIVIDUALS_AND_DOMAIN, MANY, opened};
 use device::BufferSink;
 use failing_devices::FailingSink;
-use session::{Format, Session, Summary, TextFault};
+use session::{Format, Session, Summary, WritingFault};
 use std::alloc::Global;
 use std::hash::RandomState;
 use std::test::Fail;
@@ -14,7 +14,7 @@ struct Taken {
     taxonomy: Vec<u8>,
     instances: Vec<u8>,
     certificate: Vec<u8>,
-    answer: Result<Summary, TextFault>,
+    answer: Result<Summary, WritingFault>,
 }
 
 /// A sink of the place that takes at most so many bytes a call, and fails behind so many calls if it is the failing one.
@@ -77,7 +77,7 @@ fn stops(alloc: Global, session: &Session, whole: &Taken, failing: usize, piece:
         let taken = written(alloc, session, failing, calls, piece);
         let bytes = calls.saturating_mul(piece);
         let right = if bytes < length {
-            taken.answer == Err(TextFault::Io(failing)) && are_cut(&taken, whole, failing, bytes)
+            taken.answer == Err(WritingFault::Io(failing)) && are_cut(&taken, whole, failing, bytes)
         } else {
             taken.answer == whole.answer && are_cut(&taken, whole, NOWHERE, 0)
         };

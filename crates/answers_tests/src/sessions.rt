@@ -3,7 +3,7 @@ ghost use Rattle.engine.specs.Saturations.{IsSound};
 
 use crate::documents::session_of;
 use device::BufferSink;
-use session::{AskFault, Format, Limits, Session, Stop, Summary, TextFault, Version};
+use session::{AskFault, Format, Limits, Session, Stop, Summary, Version, WritingFault};
 use std::alloc::Global;
 use std::hash::RandomState;
 use std::test::Fail;
@@ -185,7 +185,7 @@ pub(crate) struct Taken {
     pub(crate) taxonomy: Vec<u8>,
     pub(crate) instances: Vec<u8>,
     certificate: Vec<u8>,
-    pub(crate) summary: Result<Summary, TextFault>,
+    pub(crate) summary: Result<Summary, WritingFault>,
 }
 
 pub(crate) fn written(alloc: Global, session: &Session) -> Taken {
@@ -214,7 +214,7 @@ const TAXONOMY: &str =
 /// Whether nothing is written.
 fn is_unwritten(alloc: Global, session: &Session) -> bool {
     let written = written(alloc, session);
-    written.summary == Err(TextFault::Unfinished)
+    written.summary == Err(WritingFault::Unfinished)
         && written.taxonomy.is_empty()
         && written.instances.is_empty()
         && written.certificate.is_empty()

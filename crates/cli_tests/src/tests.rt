@@ -10,6 +10,7 @@ mod hierarchies;
 mod progress;
 mod refusals;
 mod refused;
+mod restricting;
 mod speaking;
 mod starting;
 mod versions;

@@ -66,7 +66,7 @@ fn open_what_is_no_file<R: AllocGlobal + Abort, F: Files>(
 /// One test for all: that these are the system's files is what its proof takes long for.
 #[test]
 fn files_of_the_system(rt: HostRuntime) -> Result<(), Fail> {
-    let mut files = SystemFiles::new(&rt);
+    let mut files = SystemFiles::new(&rt, rt.stdin());
     write_and_read_back(&rt, &mut files)?;
     fs::remove_file(&rt, PATH)?;
     write_nothing(&rt, &mut files)?;

@@ -161,6 +161,17 @@ const ROWS: &[Row] = &[
         version: Version::One,
     },
     Row {
+        case: "restrict",
+        words: &["elc", "restrict", "a.ofn", "b.ofn"],
+        command: Command::Restrict {
+            document: "a.ofn",
+            output: "b.ofn",
+        },
+        max_facts: 100_000_000,
+        max_bytes: 268_435_456,
+        version: Version::Two,
+    },
+    Row {
         case: "instances with all options",
         words: &[
             "elc",
@@ -410,6 +421,10 @@ const REFUSED: &[&str] = &[
     "elc convert a b c --max-bytes 0",
     "elc convert a b c --profile 3",
     "elc convert --help",
+    "elc restrict a",
+    "elc restrict a b c",
+    "elc restrict a b --max-facts 1",
+    "elc restrict a b --max-bytes 0",
     "elc instances a",
     "elc instances a b c",
     "elc instances a b --dot",
@@ -480,6 +495,7 @@ const TAKEN: &[&str] = &[
     "elc classify a b c d --format 2",
     "elc convert a b c --format 1 --max-bytes 1",
     "elc convert a b c --format 2 --max-bytes 268435456",
+    "elc restrict a b --max-bytes 1 --profile 1",
 ];
 
 #[test]
@@ -495,6 +511,7 @@ const EXAMPLES: &[&str] = &[
     "elc classify food.ofn food.tax food.inst food.cert",
     "elc check food.ofn food.tax food.inst food.cert",
     "elc convert food.ofn food.cert food1.cert --format 1",
+    "elc restrict food.ofn kept.ofn",
     "elc instances food.ofn http://example.org/Pizza",
     "elc parents food.ofn http://example.org/Pizza",
     "elc explain food.ofn http://example.org/Pizza http://example.org/Food",

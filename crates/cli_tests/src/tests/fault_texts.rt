@@ -5,7 +5,7 @@ use certificate::{CertFault, MakeFault};
 use certificate_text::CertWriteFault;
 use cli::{
     AskFault, CheckFault, ClassifyFault, ConversionFault, ConvertFault, DocumentFault, LineFault,
-    QueryFault, QuestionFault, Stop, TextFault,
+    QueryFault, QuestionFault, RestrictionFault, Stop, WritingFault,
 };
 use device::{Failed, Memory, ReadFault, WriteFault};
 use fs_parser::Stopped;
@@ -155,10 +155,10 @@ const ASK: &[(AskFault<'static>, &str)] = &[
     (AskFault::Memory, "out of memory"),
 ];
 
-const TEXT: &[(TextFault, &str)] = &[
-    (TextFault::Unfinished, "facts are pending"),
-    (TextFault::Memory, "out of memory"),
-    (TextFault::Io(2), "sink 2 failed"),
+const TEXT: &[(WritingFault, &str)] = &[
+    (WritingFault::Unfinished, "facts are pending"),
+    (WritingFault::Memory, "out of memory"),
+    (WritingFault::Io(2), "sink 2 failed"),
 ];
 
 fn run_faults_are_shown(alloc: Global) -> Result<bool, AllocError> {
@@ -205,13 +205,13 @@ fn faults_of_sessions(rt: HostRuntime) -> Result<(), Fail> {
     assert!(rt; question_faults_are_shown(alloc)?, "QuestionFault");
     assert!(rt; query_faults_are_shown(alloc)?, "QueryFault");
     assert!(rt; are_shown(alloc, ASK)?, "AskFault");
-    assert!(rt; are_shown(alloc, TEXT)?, "TextFault");
+    assert!(rt; are_shown(alloc, TEXT)?, "WritingFault");
     Ok(())
 }
 
-const LINE: &[(speech::LineFault, &str)] = &[
-    (speech::LineFault::Unknown, "no command"),
-    (speech::LineFault::Size, "no size"),
+const LINE: &[(speech::CommandFault, &str)] = &[
+    (speech::CommandFault::Unknown, "no command"),
+    (speech::CommandFault::Size, "no size"),
 ];
 
 fn classify_faults_are_shown(alloc: Global) -> Result<bool, AllocError> {
@@ -249,13 +249,24 @@ fn conversion_faults_are_shown(alloc: Global) -> Result<bool, AllocError> {
     )
 }
 
+fn restriction_faults_are_shown(alloc: Global) -> Result<bool, AllocError> {
+    Ok(
+        is_shown(
+            alloc,
+            RestrictionFault::Document(DocumentFault::TooLarge),
+            "U2",
+        )? && is_shown(alloc, RestrictionFault::Unwritten, "the text's sink failed")?,
+    )
+}
+
 #[test]
 fn faults_of_programs(rt: HostRuntime) -> Result<(), Fail> {
     let alloc = rt.alloc();
-    assert!(rt; are_shown(alloc, LINE)?, "LineFault of speech");
+    assert!(rt; are_shown(alloc, LINE)?, "CommandFault");
     assert!(rt; classify_faults_are_shown(alloc)?, "ClassifyFault");
     assert!(rt; check_faults_are_shown(alloc)?, "CheckFault");
     assert!(rt; conversion_faults_are_shown(alloc)?, "ConversionFault");
+    assert!(rt; restriction_faults_are_shown(alloc)?, "RestrictionFault");
     assert!(rt;
         is_shown(alloc, LineFault::Memory, "out of memory")?,
         "LineFault"
