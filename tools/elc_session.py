@@ -3,8 +3,9 @@
 
 usage: tools/elc_session.py ELC DOC [OPTION ..]
 
-ELC is a binary of elc, as crates/elc/out/elc. As a program this reads Python-like lines from standard input, each a method of `Session`
-and its words, as `supers http://example.org/Pizza`, and prints what is answered. An editor imports it:
+ELC is a binary of elc, as crates/elc/out/elc. As a program this reads commands from standard input, a line each, as docs/SESSION.md has
+them, but for sizes: `add` and `query` have their text on the same line, as `add SubClassOf(:Margherita :Pizza)`. It prints what each is
+answered with, and of one that is not done a line `no STATUS: TEXT`. An editor imports it:
 
     from elc_session import Refused, Session
     with Session("elc", "food.ofn") as session:
@@ -16,7 +17,7 @@ and its words, as `supers http://example.org/Pizza`, and prints what is answered
 Each method writes one command and reads its reply. It raises `Refused` where the command is not done, which leaves the session as it
 was but for `run`, which is then as far as it came and may be called again; and `Ended` where the process has ended (docs/SESSION.md).
 """
-import contextlib, subprocess, sys
+import contextlib, socket, subprocess, sys
 
 
 class Refused(Exception):
@@ -31,18 +32,32 @@ class Ended(Exception):
     """The process has ended."""
 
 
-class Session(contextlib.AbstractContextManager):
-    """A process that keeps the document at the path; further words are options, as "--max-facts", "1000"."""
+def lines_of(text):
+    """The lines of a text. A line ends with a line feed and with nothing else, since other line separators may stand in names."""
+    return text.split("\n")[:-1]
 
-    def __init__(self, elc, document, *options):
-        self.process = subprocess.Popen([elc, "session", document, *options], stdin=subprocess.PIPE, stdout=subprocess.PIPE)
+
+class Session(contextlib.AbstractContextManager):
+    """A process that keeps the document at the path; further words are options, as "--max-facts", "1000". Its standard input is a pipe,
+    or one end of a socket pair."""
+
+    def __init__(self, elc, document, *options, over_socket=False):
+        ours, theirs = socket.socketpair() if over_socket else (None, subprocess.PIPE)
+        self.process = subprocess.Popen([elc, "session", document, *options], stdin=theirs, stdout=subprocess.PIPE)
+        if ours is None:
+            self.input = self.process.stdin
+        else:
+            theirs.close()
+            self.input = ours.makefile("wb")
+            ours.close()
 
     def __exit__(self, *error):
         self.close()
 
     def close(self):
         """Ends the process, and gives its status."""
-        self.process.stdin.close()
+        with contextlib.suppress(OSError):
+            self.input.close()
         self.process.stdout.close()
         return self.process.wait()
 
@@ -52,9 +67,9 @@ class Session(contextlib.AbstractContextManager):
             raise ValueError("a command is one line")
         lines = [line.encode()] if text is None else [f"{line} {len(text.encode())}".encode(), text.encode()]
         try:
-            self.process.stdin.write(b"".join(part + b"\n" for part in lines))
-            self.process.stdin.flush()
-        except BrokenPipeError:
+            self.input.write(b"".join(part + b"\n" for part in lines))
+            self.input.flush()
+        except OSError:
             raise Ended from None
         head = self.process.stdout.readline().decode().split()
         reply = self.process.stdout.read(int(head[-1])) if head else b""
@@ -65,10 +80,10 @@ class Session(contextlib.AbstractContextManager):
         raise Refused(int(head[1]), reply.decode())
 
     def names(self, line):
-        return [name[1:-1] for name in self.command(line).splitlines()]
+        return [name[1:-1] for name in lines_of(self.command(line))]
 
     def groups(self, line):
-        return [[name[1:-1] for name in group.split(" = ")] for group in self.command(line).splitlines()]
+        return [[name[1:-1] for name in group.split(" = ")] for group in lines_of(self.command(line))]
 
     def counts(self, line):
         words = self.command(line).split()
@@ -78,13 +93,18 @@ class Session(contextlib.AbstractContextManager):
         """Adds axioms and declarations, with the prefixes of the document. Nothing is run."""
         self.command("add", text)
 
-    def run(self):
-        """Finds out what follows, and gives the number of facts."""
-        return self.counts("run")["facts"]
+    def run(self, most=None):
+        """Finds out what follows, of `most` as far as so many facts more, and gives the number of facts. Where there are more than these,
+        the text of what is raised, of status 5, has the counts of facts and of served ones."""
+        return self.counts("run" if most is None else f"run {most}")["facts"]
 
     def status(self):
         """The numbers of facts, of those that are served, and of bytes."""
         return self.counts("status")
+
+    def version(self):
+        """The versions of the language and of the program, by their names."""
+        return dict(line.rsplit(" ", 1) for line in lines_of(self.command("version")))
 
     def supers(self, iri):
         """The classes above the class, in byte order."""
@@ -97,6 +117,10 @@ class Session(contextlib.AbstractContextManager):
     def equivalents(self, iri):
         """The classes that are the same as the class, the class among them, in byte order."""
         return self.names(f"equivalents {iri}")
+
+    def unsatisfiable(self):
+        """The classes that have no instance in any interpretation, `owl:Nothing` among them, in byte order."""
+        return self.names("unsatisfiable")
 
     def parents(self, iri):
         """The classes directly above the class, in groups of those that are the same."""
@@ -139,16 +163,41 @@ class Session(contextlib.AbstractContextManager):
         return self.command(f"write {taxonomy} {instances} {certificate}")
 
 
-def main(elc, document, *options):
-    with Session(elc, document, *options) as session:
-        for line in sys.stdin:
-            method, *words = line.strip().split(maxsplit=1 if line.startswith(("add ", "query ")) else -1) or [""]
+def answer(session, line):
+    """The reply to a typed line, which is sent as it is, but that the size of a text stands in front of it."""
+    word, _, text = line.partition(" ")
+    return session.command(word, text) if word in ("add", "query") else session.command(line)
+
+
+def typed():
+    """The lines that are typed, with a prompt where that is at a terminal."""
+    if not sys.stdin.isatty():
+        yield from (line.rstrip("\n") for line in sys.stdin)
+        return
+    with contextlib.suppress(EOFError, KeyboardInterrupt):
+        while True:
+            yield input("elc> ")
+
+
+def main(words):
+    if len(words) < 2:
+        print(__doc__.split("\n\n")[1], file=sys.stderr)
+        return 2
+    try:
+        session = Session(*words)
+    except OSError as error:
+        print(f"cannot start {words[0]}: {error.strerror}", file=sys.stderr)
+        return 1
+    try:
+        for line in typed():
             try:
-                answer = getattr(session, method.replace("-", "_"))(*words)
-                print("" if answer is None else answer)
+                print(answer(session, line), end="", flush=True)
             except Refused as refused:
-                print(refused)
+                print(f"no {refused.status}: " + "; ".join(lines_of(refused.text)), flush=True)
+    except Ended:
+        pass
+    return session.close()
 
 
 if __name__ == "__main__":
-    main(*sys.argv[1:])
+    sys.exit(main(sys.argv[1:]))
