@@ -5,7 +5,7 @@ use Rattle.std.proofs.lemmas.Str.{IsCharBoundary-before_ascii, IsCharBoundary-af
 use Rattle.std.proofs.lemmas.List.{length-append, length-drop, get_or-append-add, take-append-drop, take_all}
 use Rattle.std.proofs.lemmas.Option.{none-some}
 use Rattle.std.proofs.Math.Seq.{drop-append_seam, take-append_seam}
-use Rattle.fs_lexer.specs.Spelling.{Token, Kind}
+use Rattle.fs_lexer.specs.Spelling.{Token, Kind, IsOfKind}
 use Rattle.fs_lexer.specs.Reading.{skip, token_at, ahead, AreReadFrom}
 use Rattle.fs_lexer.proofs.Pieces.{skip_takes}
 use Rattle.fs_lexer.proofs.Fronts.{token_takes}
@@ -20,7 +20,7 @@ pub record IsCut (text rest others : List ℕ) (kind : Kind) : Type 0 where
   pub read : token_at rest ≡ Some (kind, (next_token text rest others kind).text, others)
   pub behind : others ≡ drop (length text - length others) text
 
-cut_at : (text front rest others : List ℕ) (kind : Kind) → IsUtf8 text → text ≡ front ++ rest → Some (kind, others) ≡ ahead (token_at rest) → IsCut text rest others kind
+pub cut_at : (text front rest others : List ℕ) (kind : Kind) → IsUtf8 text → text ≡ front ++ rest → Some (kind, others) ≡ ahead (token_at rest) → IsCut text rest others kind
 cut_at text front rest others kind utf8 whole e =
     let w = ahead_was (token_at rest) kind others e in
     let f = token_takes rest (kind, w.0, others) w.1 in
@@ -85,3 +85,7 @@ reads_first text from rest others kind here cut more h =
 
 pub reads_none : (n : ℕ) (bytes rest : List ℕ) → rest ≡ skip bytes → None ≡ ahead (token_at rest) → (token : Token) (more : List Token) → AreReadFrom n bytes (token ∷ more) → ⊥
 reads_none n bytes rest here e token more (r, t, place, others) = none-some _ (sym (ap token_at (sym here) ∙ ahead_none (token_at rest) e) ∙ t)
+
+-- what is cut out is a token of its kind
+pub cut_of_kind : (text rest others : List ℕ) (kind : Kind) → IsCut text rest others kind → IsOfKind kind (next_token text rest others kind).text
+cut_of_kind text rest others kind cut = (token_takes rest (kind, (next_token text rest others kind).text, others) cut.read).of_kind

@@ -1,6 +1,7 @@
 //! Tokens, and why a text spells none.
 
 ghost use Rattle.std.specs.Prelude.{◌≡◌};
+ghost use Rattle.fs_lexer.specs.Spelling.{IsOfKind};
 ghost use Rattle.fs_lexer.specs.declared.token.LexFault.TheVariants.{Memory};
 
 use std::alloc::{AllocError, AllocFailed};
@@ -36,12 +37,13 @@ pub enum Kind {
     NodeLabel,
 }
 
-/// A token: its text as it stands in the source, and the byte at which it begins.
+/// A token: its text as it stands in the source, which is one of its kind, and the byte at which it begins.
 #[derive(Clone, Copy, Debug)]
 pub struct Token<'a> {
     pub kind: Kind,
     pub text: &'a str,
     pub at: usize,
+    pub ghost of_kind: { ∥ IsOfKind kind text.now ∥₁ },
 }
 
 /// Why a text spells no tokens, with the byte `at` at which reading stopped. All that stands before it spells tokens, the

@@ -28,7 +28,7 @@ use Rattle.fs_parser.specs.declared.fault.ParseFault.TheVariants as faults
 use Rattle.fs_parser.specs.declared.iri.Iri as code_iri
 use Rattle.fs_parser.specs.declared.reader.Frame as code_frame
 use Rattle.fs_parser.proofs.Documents.{HasRead, from_there, tokens_from}
-use Rattle.fs_parser.proofs.Steps.{frames_length, tokens_front}
+use Rattle.fs_parser.proofs.Steps.{IsFirst, frames_length, tokens_front}
 
 -- a full IRI or a short name
 abbrev IsNameKind : Kind → Type 0
@@ -137,11 +137,11 @@ only_names : (prefixes : Prefixes) (t : Token) (r : Option code_iri.Iri) → IfS
 only_names prefixes t None some iri e = absurd (none-some iri e)
 only_names prefixes t (Some i) some iri e = elim some [ inl a ↦ inl a.0 | inr b ↦ inr b.0 ]
 
-pub reads_on : (limit : ℕ) (prefixes : Prefixes) (all : List Token) (ts : List lexer.Token) (d : lexer.Token) (s next : State) (r : Option code_iri.Iri) → 1 ≤ length ts
-    → IfSome r (λ i. IsNameOf prefixes (token_of (get_or ts 0 d)) (iri_of i)) → step limit (name_of_code r) s (token_of (get_or ts 0 d)) ≡ Some next
+pub reads_on : (limit : ℕ) (prefixes : Prefixes) (all : List Token) (ts : List lexer.Token) (d : lexer.Token) (s next : State) (r : Option code_iri.Iri) → IsFirst ts d
+    → IfSome r (λ i. IsNameOf prefixes (token_of d) (iri_of i)) → step limit (name_of_code r) s (token_of d) ≡ Some next
     → IsReadTo all (tokens_of ts) (length s.frames) → IsReadTo all (tokens_of (take (length ts - 1) (drop 1 ts))) (length next.frames)
 reads_on limit prefixes all ts d s next r l some e h =
-    let t = token_of (get_or ts 0 d) in
+    let t = token_of d in
     let rest = tokens_of (take (length ts - 1) (drop 1 ts)) in
     let k = counted limit (name_of_code r) s next t (only_names prefixes t r some) e in
     record {
@@ -163,8 +163,8 @@ start_dropped at zero ts s = s
 start_dropped at (suc i) [] s = s
 start_dropped at (suc i) (t ∷ ts) s = let r = start_dropped at i ts s in (r.0, Contains-later t r.0 ts r.1, r.2)
 
-pub first_starts : (ts : List lexer.Token) (d : lexer.Token) → 1 ≤ length ts → IsStart (get_or ts 0 d).at (tokens_of ts)
-first_starts ts d l = starts_there [] (token_of (get_or ts 0 d)) (tokens_of (take (length ts - 1) (drop 1 ts))) (tokens_of ts) (get_or ts 0 d).at (tokens_front ts d l) refl
+pub first_starts : (ts : List lexer.Token) (d : lexer.Token) → IsFirst ts d → IsStart d.at (tokens_of ts)
+first_starts ts d l = starts_there [] (token_of d) (tokens_of (take (length ts - 1) (drop 1 ts))) (tokens_of ts) d.at (tokens_front ts d l) refl
 
 ends_inside : (at : ℕ) (text : List ℕ) (tokens : List Token) → AreSlicesFrom at text tokens → end_of tokens ≤ length text
 ends_inside at text [] s = omega arith
@@ -220,13 +220,13 @@ no_short : (prefixes : Prefixes) (t : Token) (r : Option code_iri.Iri) → t.kin
 no_short prefixes t None k none e = λ iri h. none iri (inr (k, h))
 no_short prefixes t (Some i) k none e = absurd (none-some (iri_of i) (sym e))
 
-pub token_trees : (limit here : ℕ) (prefixes : Prefixes) (all : List Token) (ts : List lexer.Token) (d : lexer.Token) (fs : List code_frame.Frame) (r : Option code_iri.Iri) (e : ParseFault) → 1 ≤ length ts
-    → IfNone r ((iri : List ℕ) → IsNameOf prefixes (token_of (get_or ts 0 d)) iri → ⊥) → IsReadTo all (tokens_of ts) (length (frames_of fs))
-    → IsSaidOfToken limit (length fs) (name_of_code r) (token_of (get_or ts 0 d)) e → IsSaidOfTrees limit here prefixes all e
+pub token_trees : (limit here : ℕ) (prefixes : Prefixes) (all : List Token) (ts : List lexer.Token) (d : lexer.Token) (fs : List code_frame.Frame) (r : Option code_iri.Iri) (e : ParseFault) → IsFirst ts d
+    → IfNone r ((iri : List ℕ) → IsNameOf prefixes (token_of d) iri → ⊥) → IsReadTo all (tokens_of ts) (length (frames_of fs))
+    → IsSaidOfToken limit (length fs) (name_of_code r) (token_of d) e → IsSaidOfTrees limit here prefixes all e
 token_trees limit here prefixes all ts d fs r e l none h = go e
   where
     t : Token
-    t = token_of (get_or ts 0 d)
+    t = token_of d
 
     rest : List Token
     rest = tokens_of (take (length ts - 1) (drop 1 ts))
@@ -255,15 +255,15 @@ ended_finished [] done (Typed at text) kind ends none = cc
 ended_finished (f ∷ frames) done pending kind ends none = cc
 
 -- the trees end at a token behind those that were read
-pub end_trees : {X : Type 0} (view : X → List Tree) (r : Result X ParseFault) (limit here : ℕ) (prefixes : Prefixes) (all : List Token) (ts : List lexer.Token) (d : lexer.Token) (s : State) → 1 ≤ length ts → IsReadTo all (tokens_of ts) (length s.frames)
-    → ends s (token_of (get_or ts 0 d)) ≡ true → Gives view r (finish_before (tokens_of (take (length ts - 1) (drop 1 ts))) s)
+pub end_trees : {X : Type 0} (view : X → List Tree) (r : Result X ParseFault) (limit here : ℕ) (prefixes : Prefixes) (all : List Token) (ts : List lexer.Token) (d : lexer.Token) (s : State) → IsFirst ts d → IsReadTo all (tokens_of ts) (length s.frames)
+    → ends s (token_of d) ≡ true → Gives view r (finish_before (tokens_of (take (length ts - 1) (drop 1 ts))) s)
     → IfErr r (IsPlain here (tokens_of (take (length ts - 1) (drop 1 ts)))) → IfErr r (IsSaidOfTrees limit here prefixes all)
 end_trees view (Ok x) limit here prefixes all ts d s l h ends given said = tt
 end_trees view (Err e) limit here prefixes all ts d s l h ends given said =
     plain_trees limit here prefixes (h.before ++ t ∷ []) rest all e same (λ is. absurd (finished e is given said)) said
   where
     t : Token
-    t = token_of (get_or ts 0 d)
+    t = token_of d
 
     rest : List Token
     rest = tokens_of (take (length ts - 1) (drop 1 ts))
@@ -408,8 +408,8 @@ end_said limit here known tokens (faults.StandardPrefixChanged at) unended s = a
 end_said limit here known tokens (faults.TooDeep at) unended s = absurd s
 
 -- the next token begins where it stands
-pub token_starts : (all : List Token) (ts : List lexer.Token) (d : lexer.Token) (n : ℕ) → 1 ≤ length ts → IsReadTo all (tokens_of ts) n → IsStart (get_or ts 0 d).at all
+pub token_starts : (all : List Token) (ts : List lexer.Token) (d : lexer.Token) (n : ℕ) → IsFirst ts d → IsReadTo all (tokens_of ts) n → IsStart d.at all
 token_starts all ts d n l h =
-    let t = token_of (get_or ts 0 d) in
+    let t = token_of d in
     let rest = tokens_of (take (length ts - 1) (drop 1 ts)) in
     starts_there h.before t rest all t.at (h.tokens_are ∙ ap (λ (z : List Token). h.before ++ z) (tokens_front ts d l)) refl

@@ -10,3 +10,7 @@ pub mod Faults
 pub mod ToEnd
 pub mod Streams
 pub mod TreeReading
+pub mod IriBytes
+pub mod SmallBytes
+pub mod Tokens
+pub mod TokenNames

@@ -170,37 +170,44 @@ not_named prefixes t (Some i) e none = tt
 
 -- ---- the loop
 
--- the first token, and what follows it as the code has it
-pub tokens_front : (ts : List lexer.Token) (d : lexer.Token) → 1 ≤ length ts → tokens_of ts ≡ token_of (get_or ts 0 d) ∷ tokens_of (take (length ts - 1) (drop 1 ts))
-tokens_front [] d l = absurd (omega arith)
-tokens_front (t ∷ ts) d l =
+-- the tokens begin with this one
+abbrev pub IsFirst : List lexer.Token → lexer.Token → Type 0
+IsFirst ts t = (t ≡ get_or ts 0 t) × (1 ≤ length ts)
+
+front_at : (ts : List lexer.Token) (d : lexer.Token) → 1 ≤ length ts → tokens_of ts ≡ token_of (get_or ts 0 d) ∷ tokens_of (take (length ts - 1) (drop 1 ts))
+front_at [] d l = absurd (omega arith)
+front_at (t ∷ ts) d l =
     let e : length (t ∷ ts) - 1 ≡ length ts = omega arith in
     ap (λ (z : List lexer.Token). token_of t ∷ tokens_of z) (sym (ap (λ (n : ℕ). take n ts) e ∙ take_all (length ts) ts (omega arith)))
 
-pub loop_goes_on : (limit : ℕ) (prefixes : Prefixes) → StandForOne prefixes → (ts : List lexer.Token) (d : lexer.Token) (s next : machine.State) (r : Option code_iri.Iri) (total : Option (List Tree)) → 1 ≤ length ts
-    → IfSome r (λ i. IsNameOf prefixes (token_of (get_or ts 0 d)) (iri_of i)) → IfNone r ((iri : List ℕ) → IsNameOf prefixes (token_of (get_or ts 0 d)) iri → ⊥)
-    → machine.ends s (token_of (get_or ts 0 d)) ≡ false → machine.step limit (name_of_code r) s (token_of (get_or ts 0 d)) ≡ Some next → inside limit prefixes (tokens_of ts) s ≡ total
+-- the first token, and what follows it as the code has it
+pub tokens_front : (ts : List lexer.Token) (d : lexer.Token) → IsFirst ts d → tokens_of ts ≡ token_of d ∷ tokens_of (take (length ts - 1) (drop 1 ts))
+tokens_front ts d first = front_at ts d first.1 ∙ ap (λ (t : lexer.Token). token_of t ∷ tokens_of (take (length ts - 1) (drop 1 ts))) (sym first.0)
+
+pub loop_goes_on : (limit : ℕ) (prefixes : Prefixes) → StandForOne prefixes → (ts : List lexer.Token) (d : lexer.Token) (s next : machine.State) (r : Option code_iri.Iri) (total : Option (List Tree)) → IsFirst ts d
+    → IfSome r (λ i. IsNameOf prefixes (token_of d) (iri_of i)) → IfNone r ((iri : List ℕ) → IsNameOf prefixes (token_of d) iri → ⊥)
+    → machine.ends s (token_of d) ≡ false → machine.step limit (name_of_code r) s (token_of d) ≡ Some next → inside limit prefixes (tokens_of ts) s ≡ total
     → inside limit prefixes (tokens_of (take (length ts - 1) (drop 1 ts))) next ≡ total
 loop_goes_on limit prefixes are ts d s next r total l some none e h so_far =
-    let t = token_of (get_or ts 0 d) in
+    let t = token_of d in
     goes_on limit prefixes t (tokens_of (take (length ts - 1) (drop 1 ts))) s next (name_of_code r) total (name_same prefixes are t r some none) e h
     (ap (λ (z : List Token). inside limit prefixes z s) (sym (tokens_front ts d l)) ∙ so_far)
 
-pub loop_stops : (limit : ℕ) (prefixes : Prefixes) → StandForOne prefixes → (ts : List lexer.Token) (d : lexer.Token) (s : machine.State) (r : Option code_iri.Iri) (all : List Token) (e : ParseFault) → 1 ≤ length ts
-    → IfSome r (λ i. IsNameOf prefixes (token_of (get_or ts 0 d)) (iri_of i)) → IfNone r ((iri : List ℕ) → IsNameOf prefixes (token_of (get_or ts 0 d)) iri → ⊥)
-    → machine.ends s (token_of (get_or ts 0 d)) ≡ false → Fails e (machine.step limit (name_of_code r) s (token_of (get_or ts 0 d))) → inside limit prefixes (tokens_of ts) s ≡ inside limit prefixes all start
+pub loop_stops : (limit : ℕ) (prefixes : Prefixes) → StandForOne prefixes → (ts : List lexer.Token) (d : lexer.Token) (s : machine.State) (r : Option code_iri.Iri) (all : List Token) (e : ParseFault) → IsFirst ts d
+    → IfSome r (λ i. IsNameOf prefixes (token_of d) (iri_of i)) → IfNone r ((iri : List ℕ) → IsNameOf prefixes (token_of d) iri → ⊥)
+    → machine.ends s (token_of d) ≡ false → Fails e (machine.step limit (name_of_code r) s (token_of d)) → inside limit prefixes (tokens_of ts) s ≡ inside limit prefixes all start
     → (trees : Trees) → AreClosed limit prefixes trees all → Fails e (Some trees)
 loop_stops limit prefixes are ts d s r all e l some none k h so_far trees closed =
-    let t = token_of (get_or ts 0 d) in
+    let t = token_of d in
     let total = inside limit prefixes all start in
     let f : Fails e total = stops limit prefixes t (tokens_of (take (length ts - 1) (drop 1 ts))) s (name_of_code r) total e (name_same prefixes are t r some none) k h
     (ap (λ (z : List Token). inside limit prefixes z s) (sym (tokens_front ts d l)) ∙ so_far) in
     fails_by e total (Some trees) (λ gone. absurd (none-some (list_from trees) (sym gone ∙ all_inside limit prefixes are trees all closed))) f
 
-pub loop_ends : (limit : ℕ) (prefixes : Prefixes) (ts : List lexer.Token) (d : lexer.Token) (s : machine.State) (total : Option (List Tree)) → 1 ≤ length ts
-    → machine.ends s (token_of (get_or ts 0 d)) ≡ true → inside limit prefixes (tokens_of ts) s ≡ total → machine.finish_before (tokens_of (take (length ts - 1) (drop 1 ts))) s ≡ total
+pub loop_ends : (limit : ℕ) (prefixes : Prefixes) (ts : List lexer.Token) (d : lexer.Token) (s : machine.State) (total : Option (List Tree)) → IsFirst ts d
+    → machine.ends s (token_of d) ≡ true → inside limit prefixes (tokens_of ts) s ≡ total → machine.finish_before (tokens_of (take (length ts - 1) (drop 1 ts))) s ≡ total
 loop_ends limit prefixes ts d s total l e so_far =
-    is_ended limit prefixes (token_of (get_or ts 0 d)) (tokens_of (take (length ts - 1) (drop 1 ts))) s total e (ap (λ (z : List Token). inside limit prefixes z s) (sym (tokens_front ts d l)) ∙ so_far)
+    is_ended limit prefixes (token_of d) (tokens_of (take (length ts - 1) (drop 1 ts))) s total e (ap (λ (z : List Token). inside limit prefixes z s) (sym (tokens_front ts d l)) ∙ so_far)
 
 -- no tokens are left, and none closed the trees
 pub loop_none : (limit : ℕ) (prefixes : Prefixes) → StandForOne prefixes → (ts : List lexer.Token) (s : machine.State) (all : List Token) → length ts ≡ 0
@@ -210,9 +217,9 @@ loop_none limit prefixes are (t ∷ ts) s all l so_far trees closed = absurd (om
 
 -- ---- the front of the tokens
 
-pub word_found : (word : List ℕ) (ts : List lexer.Token) (d : lexer.Token) → 1 ≤ length ts → ((get_or ts 0 d).kind ≡ Keyword) × ((get_or ts 0 d).text.now ≡ word)
+pub word_found : (word : List ℕ) (ts : List lexer.Token) (d : lexer.Token) → IsFirst ts d → (d.kind ≡ Keyword) × (d.text.now ≡ word)
     → IsWord word (tokens_of ts) (tokens_of (take (length ts - 1) (drop 1 ts)))
-word_found word ts d l h = record { token = token_of (get_or ts 0 d); tokens_are = tokens_front ts d l; kind = h.0; text = h.1 }
+word_found word ts d l h = record { token = token_of d; tokens_are = tokens_front ts d l; kind = h.0; text = h.1 }
 
 pub no_tokens : (word : List ℕ) (ts : List lexer.Token) → length ts < 1 → BeginsWith word (tokens_of ts) → ⊥
 no_tokens word [] l h = h

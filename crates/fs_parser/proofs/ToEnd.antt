@@ -23,7 +23,7 @@ use Rattle.fs_parser.proofs.Inside.{fails_by}
 use Rattle.fs_parser.proofs.Names.{name_of}
 use Rattle.fs_parser.proofs.Run.{then_run, run}
 use Rattle.fs_parser.proofs.Sound.{read_is}
-use Rattle.fs_parser.proofs.Steps.{name_same, tokens_front}
+use Rattle.fs_parser.proofs.Steps.{IsFirst, name_same, tokens_front}
 
 -- ---- the trees
 
@@ -91,37 +91,37 @@ tree_only {X} view r limit prefixes are tokens h t k = go r h
 
 -- ---- one step
 
-pub run_goes_on : (limit : ℕ) (prefixes : Prefixes) → StandForOne prefixes → (ts : List lexer.Token) (d : lexer.Token) (s next : State) (r : Option code_iri.Iri) (total : Option (List Tree)) → 1 ≤ length ts
-    → IfSome r (λ i. IsNameOf prefixes (token_of (get_or ts 0 d)) (iri_of i)) → IfNone r ((iri : List ℕ) → IsNameOf prefixes (token_of (get_or ts 0 d)) iri → ⊥)
-    → step limit (name_of_code r) s (token_of (get_or ts 0 d)) ≡ Some next → run limit prefixes (tokens_of ts) s ≡ total
+pub run_goes_on : (limit : ℕ) (prefixes : Prefixes) → StandForOne prefixes → (ts : List lexer.Token) (d : lexer.Token) (s next : State) (r : Option code_iri.Iri) (total : Option (List Tree)) → IsFirst ts d
+    → IfSome r (λ i. IsNameOf prefixes (token_of d) (iri_of i)) → IfNone r ((iri : List ℕ) → IsNameOf prefixes (token_of d) iri → ⊥)
+    → step limit (name_of_code r) s (token_of d) ≡ Some next → run limit prefixes (tokens_of ts) s ≡ total
     → run limit prefixes (tokens_of (take (length ts - 1) (drop 1 ts))) next ≡ total
 run_goes_on limit prefixes are ts d s next r total l some none h so_far =
-    let t = token_of (get_or ts 0 d) in
+    let t = token_of d in
     let rest = tokens_of (take (length ts - 1) (drop 1 ts)) in
     let k : step limit (name_of prefixes t) s t ≡ Some next = ap (λ (n : Option (List ℕ)). step limit n s t) (sym (name_same prefixes are t r some none)) ∙ h in
     sym (ap (λ (o : Option State). then_run o (run limit prefixes rest)) k) ∙ ap (λ (z : List Token). run limit prefixes z s) (sym (tokens_front ts d l)) ∙ so_far
 
-run_stops : (limit : ℕ) (prefixes : Prefixes) → StandForOne prefixes → (ts : List lexer.Token) (d : lexer.Token) (s : State) (r : Option code_iri.Iri) (total : Option (List Tree)) (e : ParseFault) → 1 ≤ length ts
-    → IfSome r (λ i. IsNameOf prefixes (token_of (get_or ts 0 d)) (iri_of i)) → IfNone r ((iri : List ℕ) → IsNameOf prefixes (token_of (get_or ts 0 d)) iri → ⊥)
-    → Fails e (step limit (name_of_code r) s (token_of (get_or ts 0 d))) → run limit prefixes (tokens_of ts) s ≡ total → Fails e total
+run_stops : (limit : ℕ) (prefixes : Prefixes) → StandForOne prefixes → (ts : List lexer.Token) (d : lexer.Token) (s : State) (r : Option code_iri.Iri) (total : Option (List Tree)) (e : ParseFault) → IsFirst ts d
+    → IfSome r (λ i. IsNameOf prefixes (token_of d) (iri_of i)) → IfNone r ((iri : List ℕ) → IsNameOf prefixes (token_of d) iri → ⊥)
+    → Fails e (step limit (name_of_code r) s (token_of d)) → run limit prefixes (tokens_of ts) s ≡ total → Fails e total
 run_stops limit prefixes are ts d s r total e l some none h so_far =
-    let t = token_of (get_or ts 0 d) in
+    let t = token_of d in
     let rest = tokens_of (take (length ts - 1) (drop 1 ts)) in
     fails_by e (step limit (name_of_code r) s t) total
     (λ stuck. sym so_far ∙ ap (λ (z : List Token). run limit prefixes z s) (tokens_front ts d l)
     ∙ ap (λ (o : Option State). then_run o (run limit prefixes rest)) (ap (λ (n : Option (List ℕ)). step limit n s t) (sym (name_same prefixes are t r some none)) ∙ stuck)) h
 
-pub trees_stop : (limit : ℕ) (prefixes : Prefixes) → StandForOne prefixes → (ts : List lexer.Token) (d : lexer.Token) (s : State) (r : Option code_iri.Iri) (all : List Token) (e : ParseFault) → 1 ≤ length ts
-    → IfSome r (λ i. IsNameOf prefixes (token_of (get_or ts 0 d)) (iri_of i)) → IfNone r ((iri : List ℕ) → IsNameOf prefixes (token_of (get_or ts 0 d)) iri → ⊥)
-    → Fails e (step limit (name_of_code r) s (token_of (get_or ts 0 d))) → run limit prefixes (tokens_of ts) s ≡ run limit prefixes all start
+pub trees_stop : (limit : ℕ) (prefixes : Prefixes) → StandForOne prefixes → (ts : List lexer.Token) (d : lexer.Token) (s : State) (r : Option code_iri.Iri) (all : List Token) (e : ParseFault) → IsFirst ts d
+    → IfSome r (λ i. IsNameOf prefixes (token_of d) (iri_of i)) → IfNone r ((iri : List ℕ) → IsNameOf prefixes (token_of d) iri → ⊥)
+    → Fails e (step limit (name_of_code r) s (token_of d)) → run limit prefixes (tokens_of ts) s ≡ run limit prefixes all start
     → (trees : Trees) → AreShallow limit prefixes trees all → Fails e (Some trees)
 trees_stop limit prefixes are ts d s r all e l some none h so_far trees k =
     fails_by e (run limit prefixes all start) (Some trees) (λ gone. absurd (none-some (list_from trees) (sym gone ∙ shallow_read limit prefixes are trees all k)))
     (run_stops limit prefixes are ts d s r (run limit prefixes all start) e l some none h so_far)
 
-pub tree_stops : (limit : ℕ) (prefixes : Prefixes) → StandForOne prefixes → (ts : List lexer.Token) (d : lexer.Token) (s : State) (r : Option code_iri.Iri) (all : List Token) (e : ParseFault) → 1 ≤ length ts
-    → IfSome r (λ i. IsNameOf prefixes (token_of (get_or ts 0 d)) (iri_of i)) → IfNone r ((iri : List ℕ) → IsNameOf prefixes (token_of (get_or ts 0 d)) iri → ⊥)
-    → Fails e (step limit (name_of_code r) s (token_of (get_or ts 0 d))) → run limit prefixes (tokens_of ts) s ≡ run limit prefixes all start
+pub tree_stops : (limit : ℕ) (prefixes : Prefixes) → StandForOne prefixes → (ts : List lexer.Token) (d : lexer.Token) (s : State) (r : Option code_iri.Iri) (all : List Token) (e : ParseFault) → IsFirst ts d
+    → IfSome r (λ i. IsNameOf prefixes (token_of d) (iri_of i)) → IfNone r ((iri : List ℕ) → IsNameOf prefixes (token_of d) iri → ⊥)
+    → Fails e (step limit (name_of_code r) s (token_of d)) → run limit prefixes (tokens_of ts) s ≡ run limit prefixes all start
     → (tree : Tree) → IsShallow limit prefixes tree all → Fails e (Some tree)
 tree_stops limit prefixes are ts d s r all e l some none h so_far tree k =
     fails_by e (run limit prefixes all start) (Some tree) (λ gone. absurd (none-some (tree ∷ []) (sym gone ∙ tree_read limit prefixes are tree all k)))
@@ -267,12 +267,12 @@ second_counts limit prefixes t ts s trees second e = go (step limit (name_of pre
     go (Some next) h x = let k = run_counts limit prefixes ts next trees x in omega (arith, h)
 
 -- and then the tokens are no one tree
-pub no_second : (limit : ℕ) (prefixes : Prefixes) → StandForOne prefixes → (ts : List lexer.Token) (d : lexer.Token) (s : State) (all : List Token) → 1 ≤ length ts
-    → begins_second s (token_of (get_or ts 0 d)) ≡ true → run limit prefixes (tokens_of ts) s ≡ run limit prefixes all start
+pub no_second : (limit : ℕ) (prefixes : Prefixes) → StandForOne prefixes → (ts : List lexer.Token) (d : lexer.Token) (s : State) (all : List Token) → IsFirst ts d
+    → begins_second s (token_of d) ≡ true → run limit prefixes (tokens_of ts) s ≡ run limit prefixes all start
     → (tree : Tree) → IsShallow limit prefixes tree all → ⊥
 no_second limit prefixes are ts d s all l second so_far tree k =
     let e = ap (λ (z : List Token). run limit prefixes z s) (sym (tokens_front ts d l)) ∙ so_far ∙ tree_read limit prefixes are tree all k in
-    let n = second_counts limit prefixes (token_of (get_or ts 0 d)) (tokens_of (take (length ts - 1) (drop 1 ts))) s (tree ∷ []) second e in
+    let n = second_counts limit prefixes (token_of d) (tokens_of (take (length ts - 1) (drop 1 ts))) s (tree ∷ []) second e in
     absurd (omega (arith, n))
 
 -- ---- what a refusal says

@@ -1,6 +1,7 @@
 //! Reading whole documents.
 
 ghost use Rattle.std.specs.Prelude.{◌≡◌, ◌++◌, ◌∷◌, List, ℕ, Some, codes, drop, IsTrue, ◌↔◌, IfOk, OnErr, IfErr};
+ghost use Rattle.std.specs.Str.{IsUtf8};
 ghost use Rattle.fs_lexer.specs.declared.token.Kind.TheVariants.{Keyword};
 ghost use Rattle.fs_lexer.specs.Views.{token_of};
 ghost use Rattle.fs_parser.specs.Document as spec;
@@ -122,6 +123,7 @@ fn new_name<'a>(known: &Known<'a>, token: &Token<'a>) -> Result<&'a str, ParseFa
 /// The IRI that the prefix of the name may stand for. The name begins at `at`.
 fn new_iri<'a>(name: &str, at: usize, token: &Token<'a>) -> Result<&'a str, ParseFault>
     ensures found { IfOk result (λ iri. IsBracketed iri.now token.now.text.now) }
+    ensures utf8 { IfOk result (λ iri. IsUtf8 iri.now) }
     ensures allowed { IfOk result (λ iri. MayStandFor name.now iri.now) }
     ensures refused { OnErr result ((iri : List ℕ) → IsBracketed iri token.now.text.now → MayStandFor name.now iri → ⊥) }
     ensures said { IfErr result (IsSaidOfIri name.now at (token_of token.now)) }

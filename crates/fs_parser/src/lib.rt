@@ -4,6 +4,7 @@
 ghost use Rattle.fs_parser.specs.Laws.{OneTree, OneListOfTrees, DocumentsHavePrefixes, OneDocument, PrefixNamesEndAtColon, TokensEndInText};
 
 mod document;
+mod expansion;
 mod fault;
 mod iri;
 mod known;

@@ -1,7 +1,7 @@
 //! Prefixes that own their texts.
 ghost use Rattle.std.specs.Prelude.{◌≡◌, ◌++◌, IfOk, map};
 ghost use Rattle.fs_parser.specs.KnownPrefixes.{known_of};
-ghost use Rattle.fs_parser.specs.Name.{StandForOne, standard_prefixes};
+ghost use Rattle.fs_parser.specs.Name.{StandForOne, StandForSpelled, standard_prefixes};
 ghost use Rattle.fs_parser.specs.OwnedPrefixes.{owned_prefix};
 ghost use Rattle.fs_parser.specs.View.{prefix_of, prefixes_of_code};
 
@@ -18,7 +18,7 @@ pub(crate) struct OwnedPrefix {
 }
 
 /// What names are expanded with behind a document: the standard prefixes, and those that the document declares. The source
-/// of the document need not stay.
+/// of the document need not stay. No name stands for two IRIs, and each IRI that one stands for can be spelled.
 #[derive(Drop)]
 pub struct Prefixes {
     pub(crate) declared: Vec<OwnedPrefix>,
@@ -57,7 +57,7 @@ fn owned_list(alloc: Global, declared: &[Prefix<'_>]) -> Result<Vec<OwnedPrefix>
 }
 
 impl Prefixes {
-    /// The standard prefixes and these, as a document declares them: no name stands for two IRIs.
+    /// The standard prefixes and these, as a document declares them: no name stands for two IRIs, and each IRI can be spelled.
     pub fn of(alloc: Global, declared: &[Prefix<'_>]) -> Result<Prefixes, AllocError>
         requires { StandForOne (standard_prefixes ++ prefixes_of_code declared.now) }
         ensures { IfOk result (λ p. p ≡ standard_prefixes ++ prefixes_of_code declared.now) }
@@ -70,6 +70,13 @@ impl Prefixes {
     /// No name stands for two IRIs. This runs nothing.
     pub fn stand_for_one(&self)
         ensures { StandForOne self.now }
+    {
+        let _ = &self.declared;
+    }
+
+    /// Each IRI that a name stands for can be spelled. This runs nothing.
+    pub fn stand_for_spelled(&self)
+        ensures { StandForSpelled self.now }
     {
         let _ = &self.declared;
     }

@@ -7,8 +7,8 @@ ghost use Rattle.fs_parser.specs.Stream.{AreFormsOf, AreTreesBehind, AreWhole, B
 ghost use Rattle.fs_parser.specs.View.{document_of, prefixes_of_code, tokens_of, trees_of, tree_of};
 
 use crate::document::{DEEPEST, forms, is_word};
+use crate::expansion::expand;
 use crate::known::Known;
-use crate::prefix::expand;
 use crate::reader::{State, end, is_ended_by, take};
 use crate::tree::{Document, Tree};
 use fs_lexer::{Kind, Token, next_token, only_separators};

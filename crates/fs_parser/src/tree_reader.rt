@@ -10,8 +10,8 @@ ghost use Rattle.fs_parser.specs.Rest.{IsNext, IsStartOf, IsTreeAt};
 ghost use Rattle.fs_parser.specs.View.{tree_of};
 
 use crate::document::DEEPEST;
+use crate::expansion::expand;
 use crate::known::Known;
-use crate::prefix::expand;
 use crate::prefixes::Prefixes;
 use crate::reader::{Pending, State, take};
 use crate::stream::{declared_by, header};

@@ -11,9 +11,9 @@ ghost use Rattle.fs_parser.specs.Tree as spec;
 ghost use Rattle.fs_parser.specs.Tree.{Trees, AreClosed, AreShallow, IsShallow};
 ghost use Rattle.fs_parser.specs.View.{tokens_of, tree_of, trees_of};
 
+use crate::expansion::expand;
 use crate::fault::ParseFault;
 use crate::known::Known;
-use crate::prefix::expand;
 use crate::reader::{State, begins_second, end, is_ended_by, take};
 use crate::tree::Tree;
 use fs_lexer::Token;

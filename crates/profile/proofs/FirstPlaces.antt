@@ -1,7 +1,8 @@
 -- First places: a list with one more member at its end.
-use Rattle.std.proofs.Common.{◌≡◌, zero, suc, Bool, true, false, ◌||◌, ◌⊎◌, inl, inr, List, [], ◌∷◌, ◌++◌, Contains, refl, sym, ap, ap₂, ◌∙◌, true≢false, subst, arith, if◌then◌else◌}
+use Rattle.std.proofs.Common.{◌≡◌, zero, suc, Bool, true, false, ◌||◌, ◌⊎◌, inl, inr, List, [], ◌∷◌, ◌++◌, All, Contains, refl, sym, ap, ap₂, ◌∙◌, true≢false, subst, arith, if◌then◌else◌}
 use Rattle.std.proofs.lemmas.Slice.Eq.{bytes_eq-Decides}
 use Rattle.std.proofs.lemmas.List.{append-nil}
+use Rattle.std.proofs.lemmas.List.Elements.{All-cons, All-head, All-tail}
 use Rattle.std.specs.Bool.{Decides}
 use Rattle.std.specs.List.{list_any}
 use Rattle.std.proofs.lemmas.Bool.Decides.{Decides-like, Decides-and}
@@ -111,3 +112,12 @@ module _ {A : Type 0} (same : A → A → Bool) (y : A) where
         λ h. one_more xs [] ∙ ap (λ zs. first_places same xs ++ zs) (last.0 (seen.placed h)) ∙ append-nil (first_places same xs),
         λ none. one_more xs [] ∙ ap (λ zs. first_places same xs ++ zs) (last.1 (λ h. elim (seen.only h) [ inl old ↦ absurd (omega (arith, old.1)) | inr new ↦ none new ])),
       )
+
+-- what holds of each holds of the first places
+pub all_first : {A : Type 0} (same : A → A → Bool) (P : A → Type 0) (xs seen : List A) → All P xs → All P (first_places_from same seen xs)
+all_first same P [] seen h = h
+all_first {A} same P (x ∷ xs) seen h = go (list_any (same x) seen) (λ s. all_first same P xs s (All-tail P x xs h))
+  where
+    go : (b : Bool) → ((s : List A) → All P (first_places_from same s xs)) → All P (if b then first_places_from same seen xs else x ∷ first_places_from same (x ∷ seen) xs)
+    go true more = more seen
+    go false more = All-cons P x (first_places_from same (x ∷ seen) xs) (All-head P x xs h) (more (x ∷ seen))

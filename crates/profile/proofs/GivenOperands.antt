@@ -1,5 +1,6 @@
 -- Operands without faults are what statements are made of.
 use Rattle.std.proofs.Common.{◌≡◌, true, false, List, [], ◌∷◌, ◌++◌, arith}
+use Rattle.std.proofs.lemmas.Bool.{eqb-true, false≢true}
 use Rattle.fs_parser.specs.Tree.{Tree, Trees, Empty, Then}
 use Rattle.program.specs.declared.version.Version.{Version}
 use Rattle.shapes.specs.Faults.{count_of, faults, faults_in}
@@ -42,3 +43,42 @@ module _ (version : Version) where
   given_operands (Each es) ts g = each_operand [] es ts g.faultless
   given_operands (Many true e) ts g = many_operands e ts g
   given_operands (Many false e) ts g = tt
+
+  -- ---- operands, one by one
+
+  abbrev pub AreOne : Expected → Trees → Type 0
+  AreOne e (Then t Empty) = faults version e t ≡ []
+  AreOne e _ = ⊥
+
+  abbrev pub AreTwo : Expected → Expected → Trees → Type 0
+  AreTwo e f (Then t (Then u Empty)) = (faults version e t ≡ []) × (faults version f u ≡ [])
+  AreTwo e f _ = ⊥
+
+  abbrev pub AreThree : Expected → Expected → Expected → Trees → Type 0
+  AreThree e f g (Then t (Then u (Then v Empty))) = (faults version e t ≡ []) × (faults version f u ≡ []) × (faults version g v ≡ [])
+  AreThree e f g _ = ⊥
+
+  pub are_one : (e : Expected) (ts : Trees) → AreGiven (Each (e ∷ [])) ts → AreOne e ts
+  are_one e Empty g = absurd (false≢true g.count)
+  are_one e (Then t Empty) g = (operand_parts version [] (Each (e ∷ [])) t Empty g.faultless).faultless
+  are_one e (Then t (Then u ts)) g = absurd (let n = eqb-true (count_of (Then t (Then u ts))) 1 g.count in omega (arith, n))
+
+  pub are_two : (e f : Expected) (ts : Trees) → AreGiven (Each (e ∷ f ∷ [])) ts → AreTwo e f ts
+  are_two e f Empty g = absurd (false≢true g.count)
+  are_two e f (Then t Empty) g = absurd (false≢true g.count)
+  are_two e f (Then t (Then u Empty)) g =
+      let a = operand_parts version [] (Each (e ∷ f ∷ [])) t (Then u Empty) g.faultless in
+      let b = operand_parts version (t ∷ []) (Each (f ∷ [])) u Empty a.later in
+      (a.faultless, b.faultless)
+  are_two e f (Then t (Then u (Then v ts))) g = absurd (let n = eqb-true (count_of (Then t (Then u (Then v ts)))) 2 g.count in omega (arith, n))
+
+  pub are_three : (e f h : Expected) (ts : Trees) → AreGiven (Each (e ∷ f ∷ h ∷ [])) ts → AreThree e f h ts
+  are_three e f h Empty g = absurd (false≢true g.count)
+  are_three e f h (Then t Empty) g = absurd (false≢true g.count)
+  are_three e f h (Then t (Then u Empty)) g = absurd (false≢true g.count)
+  are_three e f h (Then t (Then u (Then v Empty))) g =
+      let a = operand_parts version [] (Each (e ∷ f ∷ h ∷ [])) t (Then u (Then v Empty)) g.faultless in
+      let b = operand_parts version (t ∷ []) (Each (f ∷ h ∷ [])) u (Then v Empty) a.later in
+      let c = operand_parts version (t ∷ u ∷ []) (Each (h ∷ [])) v Empty b.later in
+      (a.faultless, b.faultless, c.faultless)
+  are_three e f h (Then t (Then u (Then v (Then w ts)))) g = absurd (let n = eqb-true (count_of (Then t (Then u (Then v (Then w ts))))) 3 g.count in omega (arith, n))

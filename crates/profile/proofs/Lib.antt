@@ -18,9 +18,14 @@ pub mod SameClass
 pub mod DistinctOperands
 pub mod ClassTrees
 pub mod GivenOperands
+pub mod TreeNames
 pub mod Stated
 pub mod Adding
+pub mod AnyNames
+pub mod ExpressionNames
 pub mod KnownNames
+pub mod PlainNames
+pub mod Sayable
 pub mod Takings
 pub mod Bounds
 pub mod OneReading

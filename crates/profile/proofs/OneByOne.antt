@@ -19,6 +19,7 @@ use Rattle.profile.specs.declared.acceptance.Refusal.TheVariants as refusing
 use Rattle.profile.specs.Documents.{AreTextOf, IsTaken, OpensAs, ReadsAs}
 use Rattle.profile.specs.Faults.{Refuses, of_refusal}
 use Rattle.profile.specs.Streams.{AllTaken, IsAnswerTo}
+use Rattle.profile.proofs.Sayable.{read_sayable}
 
 -- ---- trees, one after another
 
@@ -66,7 +67,13 @@ module _ (version : Version) (text : List ℕ) (utf8 : IsUtf8 text) (left : Text
       record { reads = record { reads = reads; prefixes_are = are }; number = many; read_in = refl }
 
   pub streamed_taken : (o : Ontology) → IsAnswerTo version left (Ok o) → IsOntology o → IsTaken o
-  streamed_taken o h whole = record { statements = _; numbered = h.read.ontology; few_names = h.read.few_names; well_formed = whole }
+  streamed_taken o h whole = record {
+    statements = _;
+    numbered = h.read.ontology;
+    few_names = h.read.few_names;
+    well_formed = whole;
+    sayable = read_sayable version text (the_document h.trees) o (text_of h.trees h.left_are) h.read;
+  }
 
   pub streamed_refused : (r : Refusal) → IsAnswerTo version left (Err r) → Refuses version (of_refusal r) text
   streamed_refused (refusing.Faults found) h = record { document = the_document h.trees; text = text_of h.trees h.left_are; all = h.refused.0; some = h.refused.1 }

@@ -16,12 +16,14 @@ use Rattle.program.specs.declared.version.Version.{Version}
 use Rattle.profile.specs.declared.fault.DocumentFault.{DocumentFault}
 use Rattle.profile.specs.declared.opened.Opened.{Opened}
 use Rattle.profile.specs.declared.fault.DocumentFault.TheVariants as faults
-use Rattle.profile.specs.Documents.{AreTextOf, OpensAs, ReadsAs}
+use Rattle.profile.specs.Documents.{AreTextOf, IsTaken, OpensAs, ReadsAs}
 use Rattle.profile.specs.Reading.{AreReadAs}
+use Rattle.profile.specs.Statements.{statements}
 use Rattle.fs_lexer.specs.declared.token.LexFault.{LexFault}
 use Rattle.fs_lexer.specs.declared.token.LexFault.TheVariants as lexing
 use Rattle.profile.specs.Faults.{AreNoDocument, IsOfForms, OpensKnown, ReadsKnown, Refuses, RefusesKnown, of_lexing, of_parsing}
 use Rattle.profile.proofs.Bounds.{axioms_take_bytes}
+use Rattle.profile.proofs.Sayable.{read_sayable}
 
 module _ (text : List ℕ) (tokens : List Token) (utf8 : IsUtf8 text) (spelled : Spells text tokens) where
   -- tokens that are no document
@@ -62,6 +64,15 @@ pub listed_opens : (version : Version) (text : List ℕ) (document : Document) �
 listed_opens version text document is o read whole prefixes are =
     let reads : ReadsAs version text o = record { document = document; text = is; read = read; well_formed = whole } in
     record { reads = record { reads = reads; prefixes_are = are }; number = refl; read_in = refl }
+
+pub listed_taken : (version : Version) (text : List ℕ) (document : Document) → AreTextOf text document → (o : Ontology) → AreReadAs version document.trees o → IsOntology o → IsTaken o
+listed_taken version text document is o read whole = record {
+  statements = statements version document.trees;
+  numbered = read.ontology;
+  few_names = read.few_names;
+  well_formed = whole;
+  sayable = read_sayable version text document o is read;
+}
 
 -- a document has room for its axioms
 pub axioms_fit : (version : Version) (r : Result Opened DocumentFault) (text : List ℕ) → IfOk r (OpensAs version text) → IfOk r (λ d. length d.ontology.axioms ≤ d.bytes)

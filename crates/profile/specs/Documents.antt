@@ -1,13 +1,15 @@
 -- The documents that are read, and what they read as.
-use Rattle.std.specs.Prelude.{◌≡◌, ℕ, List, length}
+use Rattle.std.specs.Prelude.{◌≡◌, ℕ, List, true, false, length}
+use Rattle.std.specs.List.{All}
 use Rattle.std.specs.Str.{IsUtf8}
-use Rattle.axioms.specs.Ontology.{Ontology}
+use Rattle.axioms.specs.Ontology.{Names, Ontology}
 use Rattle.axioms.specs.Numbering.{Statement, IsOntologyOf}
 use Rattle.axioms.specs.WellFormedness.{IsOntology}
 use Rattle.fs_lexer.specs.Spelling.{Token, Spells}
 use Rattle.fs_parser.specs.Document.{Document, IsDocument, prefixes_of}
-use Rattle.fs_parser.specs.Name.{Prefixes}
+use Rattle.fs_parser.specs.Name.{Prefixes, CanBeSpelled}
 use Rattle.profile.specs.Reading.{AreReadAs, HasFewNames}
+use Rattle.shapes.specs.Names.{is_class_name, is_reserved}
 use Rattle.profile.specs.declared.opened.Opened.{Opened}
 use Rattle.program.specs.declared.version.Version.{Version}
 
@@ -36,10 +38,17 @@ pub record OpensAs (version : Version) (bytes : List ℕ) (opened : Opened) : Ty
   pub number : opened.bytes ≡ length bytes
   pub read_in : opened.version ≡ version
 
+-- each name can be written where names of its kind may stand: it can be spelled, and it is allowed there
+pub record HasSayableNames (names : Names) : Type 0 where
+  pub classes : All (λ c. CanBeSpelled c × (is_class_name c ≡ true)) names.classes
+  pub properties : All (λ r. CanBeSpelled r × (is_reserved r ≡ false)) names.properties
+  pub individuals : All (λ a. CanBeSpelled a × (is_reserved a ≡ false)) names.individuals
+
 -- what holds of every ontology that is read, also of a source that does not tell its bytes: it is well formed, and that of
--- some statements, with as many names as there may be
+-- some statements, with as many names as there may be, and each name can be written where names of its kind may stand
 pub record IsTaken (o : Ontology) : Type 0 where
   pub statements : List Statement
   pub numbered : IsOntologyOf statements o
   pub few_names : HasFewNames o
   pub well_formed : IsOntology o
+  pub sayable : HasSayableNames o.names

@@ -34,7 +34,8 @@ fn listed_statements<'a>(
 }
 
 /// Grows the ontology by what the text states: axioms and declarations that stand alone, without an `Ontology( .. )` around them,
-/// in this version of the profile, whose names are expanded with these prefixes. A text of none is one, too.
+/// in this version of the profile, whose names are expanded with these prefixes. A text of none is one, too. New names, as those
+/// before, can be written where names of their kind may stand.
 ///
 /// # Errors
 ///
@@ -60,6 +61,7 @@ pub fn read_addition(
         Ok(trees) => trees,
         Err(fault) => return Err(fault),
     };
+    prefixes.stand_for_spelled();
     match accept_statements(alloc, ontology, &trees, version, state) {
         Ok(()) => {
             ontology.well_formed();

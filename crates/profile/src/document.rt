@@ -111,7 +111,8 @@ fn opened_bytes(
     }
 }
 
-/// The ontology that the bytes of a document read as in this version of the profile.
+/// The ontology that the bytes of a document read as in this version of the profile. Each of its names can be written where
+/// names of its kind may stand.
 ///
 /// # Errors
 ///
@@ -136,7 +137,7 @@ pub fn read_bytes(
 }
 
 /// The document that the source gives, within the limit of bytes and in the version of the limits: its ontology, its prefixes,
-/// and how many bytes it has.
+/// and how many bytes it has. Each name of the ontology can be written where names of its kind may stand.
 ///
 /// What was read of the source by then is lost where the answer is a fault.
 ///
@@ -176,7 +177,8 @@ pub fn read_opened<S: Source>(
     }
 }
 
-/// The ontology of the document that the source gives, within the limit of bytes and in the version of the limits.
+/// The ontology of the document that the source gives, within the limit of bytes and in the version of the limits. Each of its
+/// names can be written where names of its kind may stand.
 ///
 /// What was read of the source by then is lost where the answer is a fault.
 ///

@@ -1,14 +1,15 @@
 -- The texts of terms are UTF-8.
-use Rattle.std.proofs.Common.{◌≡◌, ℕ, zero, suc, ◌<◌, Bool, true, List, [], ◌∷◌, ◌++◌, refl, arith}
-use Rattle.std.specs.Prelude.{codes, slice_index, nat_lt}
+use Rattle.std.proofs.Common.{◌≡◌, ℕ, zero, suc, ◌<◌, true, List, [], ◌∷◌, ◌++◌, refl, arith}
+use Rattle.std.specs.Prelude.{codes, slice_index}
 use Rattle.std.specs.Char.{is_ascii_alphabetic}
 use Rattle.std.specs.List.{list_all}
 use Rattle.std.specs.Str.{IsUtf8, IsAscii}
-use Rattle.std.proofs.lemmas.Bool.{and_parts, ltb-true}
+use Rattle.std.proofs.lemmas.Bool.{and_parts}
 use Rattle.std.proofs.lemmas.Str.{IsUtf8-append, IsUtf8-from_ascii, IsUtf8-nil}
 use Rattle.std.proofs.lemmas.Str.Ascii.{IsAscii-nil}
 use Rattle.std.proofs.lemmas.Bool.Decides.{nat_tests}
 use Rattle.fs_lexer.specs.Spelling.{is_run}
+use Rattle.fs_parser.proofs.SmallBytes.{plain}
 use Rattle.statements_text.specs.Terms.{Term, Terms, Word, Of, None, And, HasSpelling, HaveSpelling, AllSpelled, term_text, terms_text, later_text, line_text, lines_text, terms_document}
 
 letter_small : (b : ℕ) → is_ascii_alphabetic b ≡ true → b < 128
@@ -20,20 +21,6 @@ letters_small (b ∷ bs) h = λ i. elim i as (λ i. slice_index (b ∷ bs) i < 1
   | zero ↦ letter_small b (and_parts (is_ascii_alphabetic b) (list_all is_ascii_alphabetic bs) h).0
   | suc j ↦ letters_small bs (and_parts (is_ascii_alphabetic b) (list_all is_ascii_alphabetic bs) h).1 j
 ]
-
-abbrev pub is_small : ℕ → Bool
-is_small b = nat_lt b 128
-
-all_small : (bs : List ℕ) → list_all is_small bs ≡ true → IsAscii bs
-all_small [] h = IsAscii-nil
-all_small (b ∷ bs) h = λ i. elim i as (λ i. slice_index (b ∷ bs) i < 128) [
-  | zero ↦ ltb-true b 128 (and_parts (is_small b) (list_all is_small bs) h).0
-  | suc j ↦ all_small bs (and_parts (is_small b) (list_all is_small bs) h).1 j
-]
-
--- a text of signs and letters
-pub plain : (bs : List ℕ) → list_all is_small bs ≡ true → IsUtf8 bs
-plain bs h = IsUtf8-from_ascii bs (all_small bs h)
 
 utf8_keyword : (k : List ℕ) → is_run is_ascii_alphabetic k ≡ true → IsUtf8 k
 utf8_keyword [] h = IsUtf8-nil

@@ -7,7 +7,7 @@ use Rattle.fs_parser.specs.Document.{Document}
 use Rattle.fs_parser.specs.Tree.{Tree}
 use Rattle.fs_parser.specs.View.{trees_from}
 use Rattle.profile.specs.Documents.{AreTextOf, ReadsAs}
-use Rattle.profile.specs.Faults.{IsOfForms, Refuses}
+use Rattle.profile.specs.Faults.{IsOfForms, Refuses, of_refusal}
 use Rattle.profile.specs.Reading.{AreReadAs, Refuses as RefusesTrees}
 use Rattle.profile.specs.declared.acceptance.Refusal.{Refusal}
 use Rattle.profile.specs.declared.acceptance.Refusal.TheVariants as refusing
@@ -18,8 +18,8 @@ use Rattle.shapes.specs.Faults.{Fault, document_faults}
 use Rattle.shapes.specs.View.{faults_of}
 use Rattle.shapes.specs.declared.fault.Fault as code
 use Rattle.std.specs.Prelude.{string_bytes}
-use Rattle.statements_text.specs.Restricting.{IsWhole}
-use Rattle.statements_text.specs.Restrictions.{IsNotKept, IsNotRestricted, IsRestricted, kept_statements, kept_trees, report_text}
+use Rattle.statements_text.specs.Restricting.{IsWhole, IsWholeOf}
+use Rattle.statements_text.specs.Restrictions.{AreRestricted, IsNotRestricted, IsRestricted, kept_statements, kept_trees, report_text}
 use Rattle.statements_text.specs.Terms.{lines_text, statement_terms}
 use Rattle.statements_text.specs.Texts.{document_text}
 use Rattle.statements_text.specs.declared.restriction.Restricting.{Restricting}
@@ -38,7 +38,7 @@ module _ (version : Version) (d : Document) (made : Restricting) (whole : IsWhol
   lines_are : made.lines.items ≡ lines_text (statement_terms ss)
   lines_are = whole.lines ∙ ap lines_text (kept_terms version kept (all_sound version d.trees))
 
-  pub restricted_to : (r : Restriction) → r.text.items ≡ codes "Ontology(\n" ++ (made.lines.items ++ codes ")\n") → string_bytes r.report ≡ report_text (faults_of made.faults.items) made.kept made.left_out →
+  restricted_to : (r : Restriction) → r.text.items ≡ codes "Ontology(\n" ++ (made.lines.items ++ codes ")\n") → string_bytes r.report ≡ report_text (faults_of made.faults.items) made.kept made.left_out →
       (o : Ontology) → AreReadAs version (trees_from kept) o → IsOntology o → (bytes : List ℕ) → AreTextOf bytes d → IsRestricted version d r
   restricted_to r text_is report_is o read well bytes text =
       let is : r.text.items ≡ document_text ss =
@@ -55,15 +55,21 @@ module _ (version : Version) (d : Document) (made : Restricting) (whole : IsWhol
             ∙ ap (λ (n : ℕ). report_text (document_faults version d.trees) (length ss) n) whole.left_out;
       }
 
-  -- kept trees have no faults
-  none_found : (found : List code.Fault) → faults_of found ≡ [] → found ≡ []
-  none_found [] h = refl
-  none_found (f ∷ fs) h = absurd (cc)
+-- kept trees have no faults
+none_found : (found : List code.Fault) → faults_of found ≡ [] → found ≡ []
+none_found [] h = refl
+none_found (f ∷ fs) h = absurd (cc)
 
-  pub not_kept : (r : Refusal) → RefusesTrees version r (trees_from kept) → IsNotKept version r d.trees
-  not_kept (refusing.Faults found) h = h.1 (none_found found.items (sym h.0 ∙ kept_faultless version kept (all_sound version d.trees)))
-  not_kept refusing.TooManyNames h = h.1
-  not_kept refusing.Memory h = tt
+module _ (version : Version) (bytes : List ℕ) (made : Restricting) (h : IsWholeOf version bytes made) where
+  pub are_restricted : (r : Restriction) → r.text.items ≡ codes "Ontology(\n" ++ (made.lines.items ++ codes ")\n") → string_bytes r.report ≡ report_text (faults_of made.faults.items) made.kept made.left_out →
+      (o : Ontology) → AreReadAs version (trees_from (kept_trees version h.document.trees)) o → IsOntology o → AreRestricted version bytes r
+  are_restricted r text_is report_is o read well =
+      record { document = h.document; text = h.text; restricted = restricted_to version h.document made h.whole r text_is report_is o read well bytes h.text }
+
+  pub are_not_restricted : (r : Refusal) → RefusesTrees version r (trees_from (kept_trees version h.document.trees)) → IsNotRestricted version (of_refusal r) bytes
+  are_not_restricted (refusing.Faults found) k = k.1 (none_found found.items (sym k.0 ∙ kept_faultless version (kept_trees version h.document.trees) (all_sound version h.document.trees)))
+  are_not_restricted refusing.TooManyNames k = record { document = h.document; text = h.text; many = k.1 }
+  are_not_restricted refusing.Memory k = tt
 
 -- a fault of tokens or of forms is one of the whole
 pub no_forms : (version : Version) (e : DocumentFault) (bytes : List ℕ) → Refuses version e bytes → IsOfForms e → IsNotRestricted version e bytes

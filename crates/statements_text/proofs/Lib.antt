@@ -8,14 +8,11 @@ pub mod Faultless
 pub mod SoundStatements
 pub mod Read
 pub mod Sample
-pub mod Names
 pub mod Said
 pub mod Sounding
 pub mod Rows
 pub mod Sayable
-pub mod Tokens
-pub mod TokenNames
-pub mod TreeNames
+pub mod Among
 pub mod Depths
 pub mod Named
 pub mod StatedSaid

@@ -7,6 +7,8 @@ use Rattle.axioms.specs.Numbering.{Statement}
 use Rattle.fs_parser.specs.Tree.{Tree, Trees, Name, PlainLiteral, TaggedLiteral, TypedLiteral, Form, Empty, Then}
 use Rattle.program.specs.declared.version.Version.{Version}
 use Rattle.profile.proofs.Faultless.{AreOperandsOf, form_operands, operand_parts}
+use Rattle.profile.proofs.PlainNames.{not_none}
+use Rattle.profile.proofs.TreeNames.{HasNames, HaveNames, behind_names}
 use Rattle.profile.specs.Statements.{statement_of}
 use Rattle.shapes.specs.Faults.{behind_annotations, faults, faults_in, literal_faults, own_trees}
 use Rattle.shapes.specs.Shapes.{Operands, Each, Many, Shape, axiom_forms, form_of, forms_of, later_expected, next_expected, row, shape, shape_in, since, takes}
@@ -18,8 +20,6 @@ use Rattle.shapes.specs.declared.form.Form.TheVariants as forms
 use Rattle.statements_text.specs.Terms.{HasSpelling, HaveSpelling}
 use Rattle.statements_text.specs.TreeTerms.{bare_term, term_in, terms_in}
 use Rattle.statements_text.proofs.Rows.{nothing_said, row_is}
-use Rattle.statements_text.proofs.Sounding.{not_none}
-use Rattle.statements_text.proofs.TreeNames.{HasNames, HaveNames, behind_names}
 
 -- ---- what is expected
 

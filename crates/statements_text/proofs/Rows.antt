@@ -19,13 +19,14 @@ use Rattle.shapes.specs.declared.form.Form.TheVariants as forms
 use Rattle.profile.specs.Statements.{chain_of, class_of, classes_of, iri_of, iris_of, statement_of}
 use Rattle.profile.proofs.ClassForms.{count_of_classes}
 use Rattle.profile.proofs.Faultless.{AreOperandsOf, form_operands, operand_parts}
-use Rattle.profile.proofs.GivenOperands.{AreGiven}
+use Rattle.profile.proofs.GivenOperands.{AreGiven, AreOne, AreTwo, AreThree, are_one, are_two, are_three}
 use Rattle.profile.proofs.NameTrees.{count_of_names, many_trees}
+use Rattle.profile.proofs.PlainNames.{class_name_sound, individual_plain, property_plain}
 use Rattle.statements_text.specs.Sound.{IsSoundStatement}
 use Rattle.statements_text.specs.Terms.{Term, Of, And, None as NoTerms, Word, statement_term, since as statement_since}
 use Rattle.statements_text.specs.TreeTerms.{bare_term, term_in, terms_in}
-use Rattle.statements_text.proofs.Said.{AreOne, AreTwo, AreThree, are_one, are_two, are_three, chain_said, class_said, classes_said, class_name_said, individual_said, individuals_said, properties_said, property_said}
-use Rattle.statements_text.proofs.Sounding.{chain_plain, class_name_sound, class_sound, classes_apart, classes_sound, individual_plain, individuals_apart, individuals_plain, properties_apart, properties_plain, property_plain}
+use Rattle.statements_text.proofs.Said.{chain_said, class_said, classes_said, class_name_said, individual_said, individuals_said, properties_said, property_said}
+use Rattle.statements_text.proofs.Sounding.{chain_plain, class_sound, classes_apart, classes_sound, individuals_apart, individuals_plain, properties_apart, properties_plain}
 
 -- ---- rows
 

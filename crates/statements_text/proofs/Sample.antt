@@ -4,10 +4,10 @@ use Rattle.std.specs.Prelude.{codes}
 use Rattle.axioms.specs.Axiom.{SubClassOf}
 use Rattle.axioms.specs.Expression.{Named, SomeValues, Intersection, Pair}
 use Rattle.axioms.specs.Numbering.{Statement, DeclaresClass, States}
+use Rattle.fs_parser.specs.Name.{CanBeSpelled}
+use Rattle.fs_parser.proofs.SmallBytes.{plain}
 use Rattle.program.specs.declared.version.Version.TheVariants.{One}
 use Rattle.statements_text.specs.Sound.{AllSayable}
-use Rattle.statements_text.specs.Terms.{CanBeSpelled}
-use Rattle.statements_text.proofs.Bytes.{plain}
 
 abbrev sample : List Statement
 sample = States (SubClassOf (Named (codes "x:A")) (SomeValues (codes "x:r") (Intersection (Pair (Named (codes "x:A")) (Named (codes "x:B")))))) ∷ DeclaresClass (codes "http://www.w3.org/2002/07/owl#Thing") ∷ []

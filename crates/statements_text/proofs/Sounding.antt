@@ -1,33 +1,29 @@
 -- Names and operands of trees without faults are as they have to be.
-use Rattle.std.proofs.Common.{◌≡◌, ℕ, zero, suc, ◌<◌, ◌≤◌, Bool, true, false, not, inl, inr, List, [], ◌∷◌, ◌++◌, Some, length, slice_get, refl, sym, ap, ◌∙◌, subst, arith, append_assoc, bytes_eq}
+use Rattle.std.proofs.Common.{◌≡◌, ℕ, zero, suc, ◌<◌, ◌≤◌, Bool, true, false, inl, inr, List, [], ◌∷◌, ◌++◌, Some, length, slice_get, refl, sym, ap, ◌∙◌, subst, arith, append_assoc, bytes_eq}
 use Rattle.std.specs.Bool.{Decides}
 use Rattle.std.specs.List.{list_any}
-use Rattle.std.proofs.lemmas.Bool.{false≢true}
 use Rattle.std.proofs.lemmas.Option.{none-some, slice_get_within}
 use Rattle.std.proofs.lemmas.Slice.Eq.{bytes_eq-Decides}
 use Rattle.lemmas.proofs.Members.{slice_get-from_Contains}
-use Rattle.axioms.specs.Expression.{ClassExpression as Class, Iri, operand_list}
+use Rattle.axioms.specs.Expression.{ClassExpression as Class, operand_list}
 use Rattle.axioms.specs.Numbering.{same_expression}
 use Rattle.axioms.specs.Ontology.{intersection, operands_of as parts_of}
 use Rattle.axioms.specs.WellFormedness.{AreDistinct}
 use Rattle.fs_parser.specs.Tree.{Tree, Trees, Name, Form, Empty, Then}
 use Rattle.program.specs.declared.version.Version.{Version}
-use Rattle.shapes.specs.Faults.{ReservedName, faults, faults_in}
-use Rattle.shapes.specs.Names.{is_allowed, is_class_name, is_reserved, may_be_name}
+use Rattle.shapes.specs.Faults.{faults, faults_in}
+use Rattle.shapes.specs.Names.{is_reserved}
 use Rattle.shapes.specs.Shapes.{Many}
 use Rattle.shapes.specs.declared.expected.Expected.{Expected}
-use Rattle.shapes.specs.declared.expected.Expected.TheVariants.{Class as ClassName, ClassExpression, Individual, Property, PropertyOrChain}
+use Rattle.shapes.specs.declared.expected.Expected.TheVariants.{ClassExpression, Individual, Property, PropertyOrChain}
 use Rattle.profile.specs.Statements.{chain_of, class_of, classes_of, iri_of, iris_of, operand}
 use Rattle.profile.proofs.ClassForms.{ArePlainSome, IsPlainForm, intersection_is, plain, some_is, some_values_are}
 use Rattle.profile.proofs.DistinctOperands.{distinct_classes, distinct_individuals, distinct_properties}
 use Rattle.profile.proofs.Faultless.{operand_parts}
 use Rattle.profile.proofs.FirstPlaces.{found, one_expression}
-use Rattle.profile.proofs.NameTrees.{IsName, individual_name, property_name}
+use Rattle.profile.proofs.NameTrees.{chain_form}
+use Rattle.profile.proofs.PlainNames.{allowed, individual_plain, not_none, property_plain, unreserved}
 use Rattle.statements_text.specs.Sound.{AllPlain, AllSound, AreApart, AreSound, IsSound}
-use Rattle.statements_text.proofs.Said.{chain_form, class_named}
-
-pub not_none : {A : Type 0} (x : A) (xs : List A) → x ∷ xs ≡ [] → ⊥
-not_none x xs h = cc
 
 -- ---- what is distinct is apart
 
@@ -75,42 +71,9 @@ intersection_sound (c ∷ []) many all distinct = absurd (omega (arith, many))
 intersection_sound (c ∷ d ∷ es) many all distinct =
     (parts_sound c d es all.0 all.1.0 all.1.1, apart same_expression one_expression (operand_list (parts_of c d es)) (subst AreDistinct (sym (parts_are c d es)) distinct))
 
--- ---- names
-
-unreserved : (iri : Iri) → not (is_reserved iri) ≡ true → is_reserved iri ≡ false
-unreserved iri h = go (is_reserved iri) h
-  where
-    go : (b : Bool) → not b ≡ true → b ≡ false
-    go true h = absurd (false≢true h)
-    go false h = refl
+-- ---- trees
 
 module _ (version : Version) where
-  allowed : (expected : Expected) → may_be_name expected ≡ true → (at : ℕ) (iri : Iri) → faults version expected (Name at iri) ≡ [] → is_allowed expected iri ≡ true
-  allowed expected may at iri h = go (is_allowed expected iri) refl
-    where
-      go : (b : Bool) → is_allowed expected iri ≡ b → is_allowed expected iri ≡ true
-      go true e = e
-      go false e = let is : faults version expected (Name at iri) ≡ ReservedName at ∷ [] = rw (may, e) refl in absurd (not_none (ReservedName at) [] (sym is ∙ h))
-
-  plain_name : (expected : Expected) → may_be_name expected ≡ true → ((iri : Iri) → is_allowed expected iri ≡ true → is_reserved iri ≡ false) → (t : Tree) → IsName t →
-      faults version expected t ≡ [] → is_reserved (iri_of t) ≡ false
-  plain_name expected may free (Name at iri) n h = free iri (allowed expected may at iri h)
-  plain_name expected may free _ n h = absurd n
-
-  pub property_plain : (t : Tree) → faults version Property t ≡ [] → is_reserved (iri_of t) ≡ false
-  property_plain t h = plain_name Property refl unreserved t (property_name version t h) h
-
-  pub individual_plain : (t : Tree) → faults version Individual t ≡ [] → is_reserved (iri_of t) ≡ false
-  individual_plain t h = plain_name Individual refl unreserved t (individual_name version t h) h
-
-  -- where a class is to be named
-  pub class_name_sound : (t : Tree) → faults version ClassName t ≡ [] → is_class_name (iri_of t) ≡ true
-  class_name_sound t h = go t (class_named version t h) h
-    where
-      go : (t : Tree) → IsName t → faults version ClassName t ≡ [] → is_class_name (iri_of t) ≡ true
-      go (Name at iri) n h = allowed ClassName refl at iri h
-      go _ n h = absurd n
-
   names_plain : (expected : Expected) (distinct : Bool) → ((t : Tree) → faults version expected t ≡ [] → is_reserved (iri_of t) ≡ false) → (earlier : List Tree) (ts : Trees) →
       faults_in version false earlier (Many distinct expected) ts ≡ [] → AllPlain (iris_of ts)
   names_plain expected distinct one earlier Empty h = tt
@@ -119,10 +82,10 @@ module _ (version : Version) where
       (one t p.faultless, names_plain expected distinct one (earlier ++ t ∷ []) ts p.later)
 
   pub properties_plain : (distinct : Bool) (ts : Trees) → faults_in version false [] (Many distinct Property) ts ≡ [] → AllPlain (iris_of ts)
-  properties_plain distinct ts h = names_plain Property distinct property_plain [] ts h
+  properties_plain distinct ts h = names_plain Property distinct (property_plain version) [] ts h
 
   pub individuals_plain : (distinct : Bool) (ts : Trees) → faults_in version false [] (Many distinct Individual) ts ≡ [] → AllPlain (iris_of ts)
-  individuals_plain distinct ts h = names_plain Individual distinct individual_plain [] ts h
+  individuals_plain distinct ts h = names_plain Individual distinct (individual_plain version) [] ts h
 
   pub properties_apart : (ts : Trees) → faults_in version false [] (Many true Property) ts ≡ [] → AreApart bytes_eq [] (iris_of ts)
   properties_apart ts h = apart bytes_eq bytes_eq-Decides (iris_of ts) (distinct_properties version ts h)
@@ -136,7 +99,7 @@ module _ (version : Version) where
   -- ---- chains
 
   pub chain_plain : (t : Tree) → faults version PropertyOrChain t ≡ [] → (1 ≤ length (chain_of t)) × AllPlain (chain_of t)
-  chain_plain (Name at iri) h = (omega arith, (unreserved iri (allowed PropertyOrChain refl at iri h), tt))
+  chain_plain (Name at iri) h = (omega arith, (unreserved iri (allowed version PropertyOrChain refl at iri h), tt))
   chain_plain (Form at k ts) h = let p = chain_form version at k ts h in (omega (arith, p.many), properties_plain false ts p.faultless)
   chain_plain _ h = absurd (not_none _ _ h)
 
@@ -150,7 +113,7 @@ module _ (version : Version) where
 
   mutual
     pub class_sound : (t : Tree) → faults version ClassExpression t ≡ [] → IsSound (class_of t)
-    class_sound (Name at iri) h = allowed ClassExpression refl at iri h
+    class_sound (Name at iri) h = allowed version ClassExpression refl at iri h
     class_sound (Form at k ts) h = form_sound at k ts (λ f. classes_sound [] ts f) (λ p. some_sound ts p) (plain version at k ts h)
     class_sound _ h = absurd (not_none _ _ h)
 
@@ -161,5 +124,5 @@ module _ (version : Version) where
         (class_sound t p.faultless, classes_sound (earlier ++ t ∷ []) ts p.later)
 
     some_sound : (ts : Trees) → ArePlainSome version ts → (is_reserved (iri_of (operand ts 0)) ≡ false) × IsSound (class_of (operand ts 1))
-    some_sound (Then r (Then c Empty)) h = (property_plain r h.0, class_sound c h.1)
+    some_sound (Then r (Then c Empty)) h = (property_plain version r h.0, class_sound c h.1)
     some_sound _ h = absurd h

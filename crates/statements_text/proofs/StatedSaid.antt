@@ -1,10 +1,11 @@
 -- What trees of a text's document state, if they have no fault, can be said.
 use Rattle.std.proofs.Common.{arith}
 use Rattle.statements_text.specs.Theorems.{StatedCanBeSaid}
+use Rattle.profile.proofs.TreeNames.{document_names}
+use Rattle.statements_text.proofs.Among.{among_names}
 use Rattle.statements_text.proofs.Depths.{among_shallow, bare_shallow}
 use Rattle.statements_text.proofs.Named.{stated_spelled}
 use Rattle.statements_text.proofs.Sayable.{trees_said}
-use Rattle.statements_text.proofs.TreeNames.{among_names, document_names}
 
 pub stated_said : StatedCanBeSaid
 stated_said version bytes d t s text among h e =

@@ -1,6 +1,10 @@
 -- What is made of the trees of a document, taken one by one.
-use Rattle.std.specs.Prelude.{◌≡◌, ◌+◌, List, [], ◌∷◌, ◌++◌, None, if◌then◌else◌, length, map}
+use Rattle.std.specs.Prelude.{◌≡◌, ℕ, ◌+◌, List, [], ◌∷◌, ◌++◌, None, if◌then◌else◌, length, map}
+use Rattle.fs_parser.specs.Document.{Document}
+use Rattle.fs_parser.specs.Rest.{AreLeft, TextLeft}
 use Rattle.fs_parser.specs.Tree.{Tree, Trees, Empty, Then}
+use Rattle.fs_parser.specs.View.{trees_from}
+use Rattle.profile.specs.Documents.{AreTextOf}
 use Rattle.profile.specs.Intake.{AreTaken, AreTakenBehind, of_document}
 use Rattle.program.specs.declared.version.Version.{Version}
 use Rattle.shapes.specs.Faults.{document_faults}
@@ -53,3 +57,15 @@ pub record IsWhole (version : Version) (trees : Trees) (r : Restricting) : Type 
   pub reader : AreTaken (of_document version) (kept_trees version trees) r.reader
   pub kept : r.kept ≡ length (kept_trees version trees)
   pub left_out : r.left_out ≡ faulty version trees
+
+-- all the trees that were left were taken
+pub record TakesAll (version : Version) (left : TextLeft) (r : Restricting) : Type 0 where
+  pub trees : List Tree
+  pub left_are : AreLeft left trees
+  pub whole : IsWhole version (trees_from trees) r
+
+-- the bytes are the text of a document, all trees of which were taken
+pub record IsWholeOf (version : Version) (bytes : List ℕ) (r : Restricting) : Type 0 where
+  pub document : Document
+  pub text : AreTextOf bytes document
+  pub whole : IsWhole version document.trees r

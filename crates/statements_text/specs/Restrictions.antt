@@ -11,8 +11,6 @@ use Rattle.profile.specs.Documents.{AreTextOf, ReadsAs}
 use Rattle.profile.specs.Faults.{Refuses}
 use Rattle.profile.specs.Reading.{HaveTooManyNames}
 use Rattle.profile.specs.Statements.{statement_of, statements}
-use Rattle.profile.specs.declared.acceptance.Refusal.{Refusal}
-use Rattle.profile.specs.declared.acceptance.Refusal.TheVariants as refusing
 use Rattle.profile.specs.declared.fault.DocumentFault.{DocumentFault}
 use Rattle.profile.specs.declared.fault.DocumentFault.TheVariants.{Faults, TooManyNames}
 use Rattle.program.specs.declared.version.Version.{Version}
@@ -78,12 +76,6 @@ pub record AreRestricted (version : Version) (bytes : List ℕ) (r : Restriction
   pub document : Document
   pub text : AreTextOf bytes document
   pub restricted : IsRestricted version document r
-
--- why what is kept of the trees states no ontology: it has too many names
-abbrev pub IsNotKept : Version → Refusal → Trees → Type 0
-IsNotKept version (refusing.Faults found) trees = ⊥
-IsNotKept version refusing.TooManyNames trees = HaveTooManyNames (kept_statements version trees)
-IsNotKept version refusing.Memory trees = Unit {0}
 
 -- the bytes are the text of a document, of which more names of a kind are kept than there may be
 pub record KeepTooManyNames (version : Version) (bytes : List ℕ) : Type 0 where

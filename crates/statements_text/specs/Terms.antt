@@ -2,7 +2,6 @@
 -- (OWL 2 Structural Specification, sections 2.3, 2.4 and 3.7), and the terms of statements (sections 5.8, 8.1.1, 8.2.1 and 9).
 use Rattle.std.specs.Prelude.{◌≡◌, ℕ, ◌+◌, ◌≤◌, List, [], ◌∷◌, ◌++◌, true, codes, length, max, map}
 use Rattle.std.specs.List.{flat_map}
-use Rattle.std.specs.Str.{IsUtf8}
 use Rattle.std.specs.Char.{is_ascii_alphabetic}
 use Rattle.axioms.specs.Expression.{ClassExpression, Operands, Named, Intersection, SomeValues, Pair, Before, Iri}
 use Rattle.axioms.specs.Axiom.{Axiom, SubClassOf, EquivalentClasses, DisjointClasses, SubPropertyOf, EquivalentProperties, PropertyDomain, TransitiveProperty, ReflexiveProperty, ClassAssertion, PropertyAssertion, SameIndividuals, DifferentIndividuals, NegativePropertyAssertion}
@@ -10,12 +9,13 @@ use Rattle.axioms.specs.Numbering.{Statement, DeclaresClass, DeclaresProperty, D
 use Rattle.answer_texts.specs.Names.{name_text}
 use Rattle.fs_lexer.specs.declared.token.Kind.{Kind}
 use Rattle.fs_lexer.specs.declared.token.Kind.TheVariants.{Opening, Closing, FullIri, Keyword}
-use Rattle.fs_lexer.specs.Spelling.{Token, is_iri_byte, is_run}
+use Rattle.fs_lexer.specs.Spelling.{Token, is_run}
 use Rattle.program.specs.declared.version.Version.{Version}
 use Rattle.program.specs.declared.version.Version.TheVariants.{One, Two}
 use Rattle.shapes.specs.Faults.{faults}
 use Rattle.shapes.specs.Shapes.{takes}
 use Rattle.shapes.specs.declared.expected.Expected.TheVariants as expecting
+use Rattle.fs_parser.specs.Name.{CanBeSpelled}
 use Rattle.fs_parser.specs.Tree.{Tree, Trees, Name, Form, Empty, Then}
 
 -- a name, or a keyword with operands
@@ -27,11 +27,6 @@ mutual
   pub data Terms : Type 0 where
     None : Terms
     And : (first : Term) (rest : Terms) → Terms
-
--- a name's bytes are those of some characters that may stand between < and >, of which there are some
-pub record CanBeSpelled (iri : List ℕ) : Type 0 where
-  pub spelled : is_run is_iri_byte iri ≡ true
-  pub utf8 : IsUtf8 iri
 
 -- its names can be spelled, and its keywords are letters
 abbrev mutual

@@ -1,15 +1,14 @@
 //! What of a document is of the profile, as a document.
-ghost use Rattle.fs_parser.specs.View.{document_of, tree_of, trees_of};
-ghost use Rattle.profile.specs.Documents.{AreTextOf};
+ghost use Rattle.fs_parser.specs.View.{tree_of, trees_of};
 ghost use Rattle.shapes.specs.View.{fault_of, faults_of};
-ghost use Rattle.statements_text.specs.Restricting.{IsBegun, IsWhole, KeepsTree, TakesTree};
-ghost use Rattle.statements_text.specs.Restrictions.{AreRestricted, IsNotKept, IsNotRestricted, IsRestricted, report_text};
-ghost use Rattle.std.specs.Prelude.{◌≡◌, ◌++◌, ◌-◌, ◌<◌, ◌^◌, ℕ, IfErr, IfOk, List, OnOk, codes, map, string_bytes};
+ghost use Rattle.statements_text.specs.Restricting.{IsBegun, IsWhole, IsWholeOf, KeepsTree, TakesAll, TakesTree};
+ghost use Rattle.statements_text.specs.Restrictions.{AreRestricted, IsNotRestricted, report_text};
+ghost use Rattle.std.specs.Prelude.{◌≡◌, ◌++◌, ◌-◌, ◌<◌, ◌^◌, ℕ, IfErr, IfOk, IfSome, List, OnOk, codes, map, string_bytes};
 
 use crate::tree_text::write_tree_line;
 use axioms::Memory;
-use fs_parser::{Document, Tree};
-use profile::{DocumentFault, OntologyReader, Refusal, Version, listed_document};
+use fs_parser::{Tree, TreeReader};
+use profile::{DocumentFault, OntologyReader, Version, listed_document};
 use shapes::{Fault, Place, part_faults};
 use std::alloc::{AllocError, Global};
 use std::hash::RandomState;
@@ -116,6 +115,59 @@ fn taken(
     Ok(restricting)
 }
 
+/// What is made of the document that the text is, by the list of its trees.
+fn listed(
+    alloc: Global,
+    text: &str,
+    version: Version,
+    state: RandomState,
+) -> Result<Restricting, DocumentFault>
+    ensures whole { IfOk result (IsWholeOf version text.now) }
+    ensures refused { IfErr result (λ e. IsNotRestricted version e text.now) }
+{
+    let document = match listed_document(alloc, text) {
+        Ok(document) => document,
+        Err(fault) => return Err(fault),
+    };
+    match taken(alloc, &document.trees, version, state) {
+        Ok(made) => Ok(made),
+        Err(_) => Err(DocumentFault::Memory),
+    }
+}
+
+/// Takes all trees that are left, each of which goes before the next one is read.
+fn take_all(trees: &mut TreeReader<'_>, restricting: &mut Restricting) -> Option<()>
+    requires { IsBegun restricting.old.version restricting.old }
+    ensures { IfSome result (λ _. TakesAll restricting.old.version trees.old restricting.new) }
+{
+    loop {
+        match trees.next() {
+            Ok(Some(tree)) => {
+                let taken = restricting.take(&tree);
+                drop(tree);
+                match taken {
+                    Ok(()) => {}
+                    Err(_) => return None,
+                }
+            }
+            Ok(None) => return Some(()),
+            Err(_) => return None,
+        }
+    }
+}
+
+/// What is made of the document that the text is. None where it is no document, and where memory was refused.
+fn streamed(alloc: Global, text: &str, version: Version, state: RandomState) -> Option<Restricting>
+    ensures { IfSome result (IsWholeOf version text.now) }
+{
+    let mut trees = TreeReader::start(alloc, text)?;
+    let Ok(mut made) = Restricting::start(alloc, version, state) else {
+        return None;
+    };
+    take_all(&mut trees, &mut made)?;
+    Some(made)
+}
+
 /// A line for each fault, and one of the counts.
 fn report_of(
     alloc: Global,
@@ -147,41 +199,47 @@ fn text_of(alloc: Global, lines: &[u8]) -> Result<Vec<u8>, AllocError>
 }
 
 /// The text of what is kept, and the report.
-fn written(alloc: Global, made: &Restricting) -> Result<Restriction, AllocError>
-    ensures text { IfOk result (λ r. r.text.items ≡ codes "Ontology(\n" ++ (made.now.lines.items ++ codes ")\n")) }
-    ensures report { IfOk result (λ r. string_bytes r.report ≡ report_text (faults_of made.now.faults.items) made.now.kept made.now.left_out) }
+fn written(
+    alloc: Global,
+    lines: &[u8],
+    faults: &[Fault],
+    kept: usize,
+    left_out: usize,
+) -> Result<Restriction, AllocError>
+    ensures text { IfOk result (λ r. r.text.items ≡ codes "Ontology(\n" ++ (lines.now ++ codes ")\n")) }
+    ensures report { IfOk result (λ r. string_bytes r.report ≡ report_text (faults_of faults.now) kept left_out) }
 {
-    let text = text_of(alloc, &made.lines)?;
-    let report = report_of(alloc, &made.faults, made.kept, made.left_out)?;
+    let text = text_of(alloc, lines)?;
+    let report = report_of(alloc, faults, kept, left_out)?;
     Ok(Restriction { text, report })
 }
 
-/// What of the document is of the profile.
-fn restriction_of(
-    alloc: Global,
-    document: &Document<'_>,
-    version: Version,
-    state: RandomState,
-) -> Result<Restriction, Refusal>
-    ensures restricted { IfOk result (λ r. (bytes : List ℕ) → AreTextOf bytes (document_of document.now) → IsRestricted version (document_of document.now) r) }
-    ensures refused { IfErr result (λ r. IsNotKept version r (trees_of document.now.trees.items)) }
+/// What of a document is of the profile, by what was made of all its trees; or why what is kept of it states no ontology. The ontology
+/// is let go before the text is made.
+fn restriction_of(alloc: Global, made: Restricting) -> Result<Restriction, DocumentFault>
+    ensures restricted { IfOk result (λ r. (version : Version) (bytes : List ℕ) → IsWholeOf version bytes made → AreRestricted version bytes r) }
+    ensures refused { IfErr result (λ e. (version : Version) (bytes : List ℕ) → IsWholeOf version bytes made → IsNotRestricted version e bytes) }
 {
-    let Ok(made) = taken(alloc, &document.trees, version, state) else {
-        return Err(Refusal::Memory);
-    };
-    let Ok(restriction) = written(alloc, &made) else {
-        return Err(Refusal::Memory);
-    };
-    match made.reader.finish() {
-        Ok(ontology) => {
-            ontology.well_formed();
-            Ok(restriction)
-        }
-        Err(refusal) => Err(refusal),
+    let Restricting {
+        reader,
+        lines,
+        faults,
+        kept,
+        left_out,
+        ..
+    } = made;
+    match reader.finish() {
+        Ok(ontology) => ontology.well_formed(),
+        Err(refusal) => return Err(DocumentFault::from(refusal)),
+    }
+    match written(alloc, &lines, &faults, kept, left_out) {
+        Ok(restriction) => Ok(restriction),
+        Err(_) => Err(DocumentFault::Memory),
     }
 }
 
-/// What of the document that the text is is of the profile.
+/// What of the document that the text is is of the profile. Its trees are read one by one; the lists of all tokens and of all
+/// trees are made only where it is no document, for the fault.
 fn restricted_text(
     alloc: Global,
     text: &str,
@@ -191,13 +249,12 @@ fn restricted_text(
     ensures restricted { IfOk result (AreRestricted version text.now) }
     ensures refused { IfErr result (λ e. IsNotRestricted version e text.now) }
 {
-    let document = match listed_document(alloc, text) {
-        Ok(document) => document,
-        Err(fault) => return Err(fault),
-    };
-    match restriction_of(alloc, &document, version, state) {
-        Ok(restriction) => Ok(restriction),
-        Err(refusal) => Err(DocumentFault::from(refusal)),
+    if let Some(made) = streamed(alloc, text, version, state) {
+        return restriction_of(alloc, made);
+    }
+    match listed(alloc, text, version, state) {
+        Ok(made) => restriction_of(alloc, made),
+        Err(fault) => Err(fault),
     }
 }
 

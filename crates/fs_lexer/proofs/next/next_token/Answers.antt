@@ -2,9 +2,10 @@ use Rattle.std.proofs.Common.{◌≡◌, ◌∙◌, ◌-◌, List, ℕ, ◌∷�
 use Rattle.std.specs.Str.{IsCharBoundary}
 use Rattle.std.proofs.lemmas.List.{length-drop}
 use Rattle.fs_lexer.specs.Spelling as spelling
+use Rattle.fs_lexer.specs.Spelling.{IsOfKind}
 use Rattle.fs_lexer.specs.Reading.{skip, AreReadFrom}
 use Rattle.fs_lexer.proofs.State.{next_token, skip_shorter}
-use Rattle.fs_lexer.proofs.Cuts.{from_place, cut_behind, reads_first}
+use Rattle.fs_lexer.proofs.Cuts.{from_place, cut_behind, cut_of_kind, reads_first}
 use Rattle.fs_lexer.proofs.next.next_token.Goals as goal
 
 pub overflow_sub-at : goal.overflow_sub-at
@@ -71,3 +72,16 @@ returns-clause-read c =
     ap (λ (t : List ℕ). token_from t n) c.range-text.ensures.value ∙ ap (λ (m : ℕ). token_from (piece m) m) (ap length be) in
     λ more h. subst (λ (t : spelling.Token). AreReadFrom (length text) (drop c.args.from text) (t ∷ more)) (sym same)
     (reads_first text c.args.from rest others kind here cut more (subst (λ (m : ℕ). AreReadFrom (length text) (drop (m - length others) text) more) (ap length be) h))
+
+pub invariant_of-result : goal.invariant_of-result
+invariant_of-result c =
+    let text = c.args.text.now in
+    let be : c.as_bytes-bytes.result.now ≡ text = cc in
+    let rest = c.skip-rest.result.now in
+    let others = c.in_ok-kind.others.now in
+    let kind = c.in_ok-kind.kind in
+    let here = c.skip-rest.ensures ∙ ap skip (from_place text c.as_bytes-bytes.result.now c.args.from be c.requires) in
+    let cut = cut_behind text c.args.from rest others kind c.utf8.text here c.in_ok-kind.ensures in
+    let piece : ℕ → List ℕ = λ m. take (m - length others - (m - length rest)) (drop (m - length rest) text) in
+    let same : c.range-text.result.now ≡ piece (length text) = c.range-text.ensures.value ∙ ap piece (ap length be) in
+    record { of_kind = ∣ subst (IsOfKind kind) (sym same) (cut_of_kind text rest others kind cut) ∣₁ }

@@ -3,9 +3,11 @@ use Rattle.std.specs.Str.{IsCharBoundary}
 use Rattle.std.proofs.lemmas.List.{map-append, nil_from_length}
 use Rattle.std.proofs.lemmas.Bool.Decides.{nat_tests}
 use Rattle.fs_lexer.specs.Spelling as spelling
+use Rattle.fs_lexer.specs.Spelling.{IsOfKind}
 use Rattle.fs_lexer.specs.Views.{token_of}
 use Rattle.fs_lexer.specs.Reading.{skip}
 use Rattle.fs_lexer.specs.Faults.{IsNext}
+use Rattle.fs_lexer.proofs.Cuts.{cut_at, cut_of_kind}
 use Rattle.fs_lexer.proofs.State.{IsState, next_token, first_state, next_state, last_state, stuck_state, next_at, done_at, skip_shorter, something}
 use Rattle.fs_lexer.proofs.reading.tokens.Goals as goal
 
@@ -78,3 +80,15 @@ pub returns-clause-found : goal.returns-clause-found
 returns-clause-found c =
     let l : length c.loop-bytes.rest.now ≡ 0 = grind (arith, nat_tests, c.is_empty.ensures, c.loop-bytes-test.false) in
     last_state c.args.text.now _ c.loop-bytes.rest.now c.loop-bytes.invariant.1 (nil_from_length c.loop-bytes.rest.now l)
+
+pub invariant_of-push : goal.invariant_of-push
+invariant_of-push c =
+    let text = c.args.text.now in
+    let rest = c.loop-bytes.rest.now in
+    let others = c.in-Some.others.now in
+    let kind = c.in-Some.kind in
+    let state = c.loop-bytes.invariant.1 in
+    let cut = cut_at text state.front rest others kind c.utf8.text state.whole c.in-Some.ensures in
+    let piece : ℕ → List ℕ = λ m. take (m - length others - (m - length rest)) (drop (m - length rest) text) in
+    let same : c.range-text.result.now ≡ piece (length text) = c.range-text.ensures.value ∙ ap piece (ap length c.loop-bytes.invariant.0) in
+    record { of_kind = ∣ subst (IsOfKind kind) (sym same) (cut_of_kind text rest others kind cut) ∣₁ }

@@ -7,6 +7,7 @@ use Rattle.fs_parser.specs.KnownPrefixes.{known_of}
 use Rattle.fs_parser.specs.View.{tokens_of, prefixes_of_code}
 use Rattle.fs_parser.proofs.Documents.{allowed_from, declared_iri}
 use Rattle.fs_parser.proofs.Faults.{plain_said, name_said, iri_said, open_behind}
+use Rattle.fs_parser.proofs.TokenNames.{bracket_run}
 use Rattle.fs_parser.proofs.document.declaration.Goals as goal
 
 pub returns-in_err-iri-clause-refused : goal.returns-in_err-iri-clause-refused
@@ -107,3 +108,10 @@ returns-in_err-rest-clause-said c =
     let p = err_from_is_err_and c.from_residual.result c.from_residual.ensures.1 in
     rw (p.1, p.2) (plain_said c.args.here (prefixes_of_code c.args.known.now.declared.items) [] (tokens_of c.args.tokens.now) (tokens_of c.args.tokens.now)
     c.in_err-rest.field-0.0 refl (inr (omega arith)) c.in_err-rest.ensures.said)
+
+pub invariant_of-result : goal.invariant_of-result
+invariant_of-result c =
+    let token = c.in_ok-iri_token.iri_token in
+    let iri = c.in_ok-iri.iri.now in
+    let run = bracket_run token.kind token.text.now iri token.of_kind c.in_ok-iri_token.ensures.kind c.in_ok-iri.ensures.found in
+    record { spelled = ∣ record { spelled = run; utf8 = c.in_ok-iri.ensures.utf8 } ∣₁ }

@@ -13,27 +13,27 @@ use Rattle.fs_parser.proofs.trees.tree_to_end.Goals as goal
 pub loop-rest-preserved : goal.loop-rest-preserved
 loop-rest-preserved c =
     let prefixes = known_of c.args.known.now in (
-      run_goes_on c.args.limit prefixes c.requires c.loop-rest.rest.now _ (state_of c.loop-rest.state) (state_of c.take.new.state) c.expand.result
-          (run c.args.limit prefixes (tokens_of c.args.tokens.now) start) c.in-len1-up.len_at_least c.expand.ensures.some c.expand.ensures.none
+      run_goes_on c.args.limit prefixes c.requires c.loop-rest.rest.now c.token-item.result (state_of c.loop-rest.state) (state_of c.take.new.state) c.expand.result
+          (run c.args.limit prefixes (tokens_of c.args.tokens.now) start) (c.token-item.is, c.in-len1-up.len_at_least) c.expand.ensures.some c.expand.ensures.none
           c.in_ok-take.ensures.given c.loop-rest.invariant.0,
-      reads_on c.args.limit prefixes (tokens_of c.args.tokens.now) c.loop-rest.rest.now _ (state_of c.loop-rest.state) (state_of c.take.new.state) c.expand.result
-          c.in-len1-up.len_at_least c.expand.ensures.some c.in_ok-take.ensures.given c.loop-rest.invariant.1,
+      reads_on c.args.limit prefixes (tokens_of c.args.tokens.now) c.loop-rest.rest.now c.token-item.result (state_of c.loop-rest.state) (state_of c.take.new.state) c.expand.result
+          (c.token-item.is, c.in-len1-up.len_at_least) c.expand.ensures.some c.in_ok-take.ensures.given c.loop-rest.invariant.1,
     )
 
 pub returns-in_err-take-clause-only : goal.returns-in_err-take-clause-only
 returns-in_err-take-clause-only c =
     let prefixes = known_of c.args.known.now in
     let p = err_from_is_err_and c.from_residual.result c.from_residual.ensures.1 in
-    λ ts h. rw (p.1, p.2) (tree_stops c.args.limit prefixes c.requires c.loop-rest.rest.now _ (state_of c.loop-rest.state) c.expand.result
-    (tokens_of c.args.tokens.now) c.in_err-take.field-0.0 c.in-len1-up.len_at_least c.expand.ensures.some c.expand.ensures.none
+    λ ts h. rw (p.1, p.2) (tree_stops c.args.limit prefixes c.requires c.loop-rest.rest.now c.token-item.result (state_of c.loop-rest.state) c.expand.result
+    (tokens_of c.args.tokens.now) c.in_err-take.field-0.0 (c.token-item.is, c.in-len1-up.len_at_least) c.expand.ensures.some c.expand.ensures.none
     c.in_err-take.ensures.given c.loop-rest.invariant.0 ts h)
 
 pub returns-in_err-take-clause-said : goal.returns-in_err-take-clause-said
 returns-in_err-take-clause-said c =
     let prefixes = known_of c.args.known.now in
     let p = err_from_is_err_and c.from_residual.result c.from_residual.ensures.1 in
-    rw (p.1, p.2) (token_trees c.args.limit c.args.here prefixes (tokens_of c.args.tokens.now) c.loop-rest.rest.now _ c.loop-rest.state.frames.items c.expand.result
-    c.in_err-take.field-0.0 c.in-len1-up.len_at_least c.expand.ensures.none c.loop-rest.invariant.1 c.in_err-take.ensures.said)
+    rw (p.1, p.2) (token_trees c.args.limit c.args.here prefixes (tokens_of c.args.tokens.now) c.loop-rest.rest.now c.token-item.result c.loop-rest.state.frames.items c.expand.result
+    c.in_err-take.field-0.0 (c.token-item.is, c.in-len1-up.len_at_least) c.expand.ensures.none c.loop-rest.invariant.1 c.in_err-take.ensures.said)
 
 pub returns-clause-found : goal.returns-clause-found
 returns-clause-found c =
@@ -55,9 +55,9 @@ returns-clause-said c =
 
 pub returns-then-begins_second-clause-only : goal.returns-then-begins_second-clause-only
 returns-then-begins_second-clause-only c =
-    λ t h. absurd (no_second c.args.limit (known_of c.args.known.now) c.requires c.loop-rest.rest.now _ (state_of c.loop-rest.state) (tokens_of c.args.tokens.now) c.in-len1-up.len_at_least
+    λ t h. absurd (no_second c.args.limit (known_of c.args.known.now) c.requires c.loop-rest.rest.now c.token-item.result (state_of c.loop-rest.state) (tokens_of c.args.tokens.now) (c.token-item.is, c.in-len1-up.len_at_least)
     (sym c.begins_second.ensures ∙ c.if-begins_second.true) c.loop-rest.invariant.0 t h)
 
 pub returns-then-begins_second-clause-said : goal.returns-then-begins_second-clause-said
 returns-then-begins_second-clause-said c =
-    token_starts (tokens_of c.args.tokens.now) c.loop-rest.rest.now _ (length (frames_of c.loop-rest.state.frames.items)) c.in-len1-up.len_at_least c.loop-rest.invariant.1
+    token_starts (tokens_of c.args.tokens.now) c.loop-rest.rest.now c.token-item.result (length (frames_of c.loop-rest.state.frames.items)) (c.token-item.is, c.in-len1-up.len_at_least) c.loop-rest.invariant.1

@@ -1,7 +1,7 @@
 use Rattle.fs_lexer.specs.Views.{token_of}
 use Rattle.fs_parser.specs.KnownPrefixes.{known_of}
 use Rattle.fs_parser.proofs.Steps.{not_named}
-use Rattle.fs_parser.proofs.prefix.expand.Goals as goal
+use Rattle.fs_parser.proofs.expansion.expand.Goals as goal
 
 pub returns-in-ShortName-clause-none : goal.returns-in-ShortName-clause-none
 returns-in-ShortName-clause-none c =

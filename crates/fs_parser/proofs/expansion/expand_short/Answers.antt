@@ -2,7 +2,7 @@ use Rattle.std.proofs.Common.{Some, None, arith}
 use Rattle.std.proofs.lemmas.Str.Pattern.{split_parts}
 use Rattle.fs_parser.specs.KnownPrefixes.{known_of}
 use Rattle.fs_parser.proofs.Steps.{short_some, short_unknown, short_none}
-use Rattle.fs_parser.proofs.prefix.expand_short.Goals as goal
+use Rattle.fs_parser.proofs.expansion.expand_short.Goals as goal
 
 pub returns-in_err-name-clause-none : goal.returns-in_err-name-clause-none
 returns-in_err-name-clause-none c =

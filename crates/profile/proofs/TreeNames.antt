@@ -1,29 +1,39 @@
--- Names in the trees of a document that is the text of some bytes can be spelled.
-use Rattle.std.proofs.Common.{◌≡◌, ℕ, Bool, true, false, List, [], ◌∷◌, inl, inr, sym, subst, if◌then◌else◌}
+-- Names in trees that are read of a text can be spelled.
+use Rattle.std.proofs.Common.{◌≡◌, ℕ, Bool, true, false, List, [], ◌∷◌, subst, if◌then◌else◌}
 use Rattle.std.specs.Char.{is_ascii_alphabetic}
+use Rattle.std.specs.Str.{IsUtf8}
 use Rattle.fs_lexer.specs.Spelling.{Token, IsOfKind, is_run}
 use Rattle.fs_parser.specs.Document.{Document, prefixes_of}
-use Rattle.fs_parser.specs.Name.{Prefixes, standard_prefixes}
+use Rattle.fs_parser.specs.Name.{Prefixes, CanBeSpelled, StandForSpelled, standard_prefixes}
 use Rattle.fs_parser.specs.Tree.{Tree, Trees, AreTrees, IsTree, Name, Form, Empty, Then}
 use Rattle.profile.specs.Documents.{AreTextOf}
 use Rattle.shapes.specs.Faults.{behind_annotations, is_annotation}
-use Rattle.statements_text.specs.Terms.{CanBeSpelled}
-use Rattle.statements_text.specs.TreeTerms.{IsAmong}
-use Rattle.statements_text.proofs.TokenNames.{AreBases, both_bases, declared_bases, name_spelled, standard_bases}
-use Rattle.statements_text.proofs.Tokens.{AreSpelled, first_spelled, second_spelled, tokens_spelled}
+use Rattle.fs_parser.proofs.TokenNames.{both_bases, declared_bases, name_spelled, standard_bases}
+use Rattle.fs_parser.proofs.Tokens.{AreSpelled, first_spelled, second_spelled, tokens_spelled}
+use Rattle.profile.specs.AddedTexts.{AreStatementsOf}
+
+-- this holds of the names in the tree, and this of the keywords
+abbrev mutual
+  pub Holds : (List ℕ → Type 0) → (List ℕ → Type 0) → Tree → Type 0
+  Holds N W (Name at iri) = N iri
+  Holds N W (Form at keyword trees) = W keyword × Hold N W trees
+  Holds N W _ = Unit {0}
+
+  pub Hold : (List ℕ → Type 0) → (List ℕ → Type 0) → Trees → Type 0
+  Hold N W Empty = Unit {0}
+  Hold N W (Then first rest) = Holds N W first × Hold N W rest
+
+abbrev pub IsWord : List ℕ → Type 0
+IsWord keyword = is_run is_ascii_alphabetic keyword ≡ true
 
 -- names in the tree can be spelled, and keywords are letters
-abbrev mutual
-  pub HasNames : Tree → Type 0
-  HasNames (Name at iri) = CanBeSpelled iri
-  HasNames (Form at keyword trees) = (is_run is_ascii_alphabetic keyword ≡ true) × HaveNames trees
-  HasNames _ = Unit {0}
+abbrev pub HasNames : Tree → Type 0
+HasNames = Holds CanBeSpelled IsWord
 
-  pub HaveNames : Trees → Type 0
-  HaveNames Empty = Unit {0}
-  HaveNames (Then first rest) = HasNames first × HaveNames rest
+abbrev pub HaveNames : Trees → Type 0
+HaveNames = Hold CanBeSpelled IsWord
 
-module _ (prefixes : Prefixes) (bases : AreBases prefixes) where
+module _ (prefixes : Prefixes) (bases : StandForSpelled prefixes) where
   mutual
     tree_names : (t : Tree) (tokens : List Token) → AreSpelled tokens → IsTree prefixes t tokens → HasNames t
     tree_names (Name at iri) tokens s h = name_spelled prefixes h.0 iri bases (subst AreSpelled h.1 s).0 h.3
@@ -50,11 +60,9 @@ document_names bytes d text =
     let inner = first_spelled o.closed.inner (o.closed.closing ∷ []) (subst AreSpelled o.closed.tokens_are inside) in
     trees_names (prefixes_of d) (both_bases standard_prefixes d.declared standard_bases declared.0) d.trees o.closed.inner inner o.closed.are_trees
 
--- of one of them
-pub among_names : (ts : Trees) (t : Tree) → IsAmong ts t → HaveNames ts → HasNames t
-among_names Empty t among h = absurd among
-among_names (Then first rest) t (inl e) h = subst HasNames (sym e) h.0
-among_names (Then first rest) t (inr among) h = among_names rest t among h.1
+-- those of trees that a text is, with such prefixes
+pub added_names : (prefixes : Prefixes) (text : List ℕ) (ts : Trees) → IsUtf8 text → StandForSpelled prefixes → AreStatementsOf prefixes text ts → HaveNames ts
+added_names prefixes text ts utf8 bases are = trees_names prefixes bases ts are.tokens (tokens_spelled 0 [] text are.tokens utf8 are.spelled) are.are.are_trees
 
 -- behind the annotations in front
 pub behind_names : (ts : Trees) → HaveNames ts → HaveNames (behind_annotations ts)
