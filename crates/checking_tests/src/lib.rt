@@ -8,6 +8,8 @@ mod checks;
 #[cfg(test)]
 mod documents;
 #[cfg(test)]
+mod groups;
+#[cfg(test)]
 mod narrowed_listings;
 #[cfg(test)]
 mod relations;

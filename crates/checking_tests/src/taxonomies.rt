@@ -15,7 +15,7 @@ use taxonomy::{
 };
 
 /// How many there are, as a number of 32 bits.
-fn count(n: usize) -> Result<u32, Memory>
+pub(crate) fn count(n: usize) -> Result<u32, Memory>
     ensures { IfOk result (λ m. m ≡ n) }
 {
     match u32::try_from(n) {

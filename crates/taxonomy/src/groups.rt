@@ -2,16 +2,11 @@
 ghost use Rattle.number_sets.specs.Members.{has};
 ghost use Rattle.number_sets.specs.Pieces.{list_at};
 ghost use Rattle.std.specs.List.{All, filter};
-ghost use Rattle.std.specs.Prelude.{◌<◌, ◌||◌, ◌≡◌, IfOk, length, map, nat_eq, nat_lt, ℕ};
-ghost use Rattle.std.specs.String.{string_bytes};
-ghost use Rattle.taxonomy.specs.ClassMarks.{HasRoom, Leads};
+ghost use Rattle.std.specs.Prelude.{◌<◌, ◌||◌, ◌≡◌, IfOk, length, nat_eq, nat_lt, ℕ};
 ghost use Rattle.taxonomy.specs.Relation.{is_listed};
 ghost use Rattle.taxonomy.specs.Superclasses.{AreSuperclasses, is_among, is_as_large};
-ghost use Rattle.taxonomy.specs.Texts.{group, groups, in_byte_order, is_directly_above, least_groups};
+ghost use Rattle.taxonomy.specs.Texts.{groups};
 
-use crate::collecting::once_of;
-use crate::least::{Marks, least_of};
-use crate::order::sorted_by_name;
 use crate::superclasses::Superclasses;
 use axioms::Memory;
 use number_sets::EpochSet;
@@ -52,6 +47,7 @@ pub(crate) fn leaders(
     Ok(found)
 }
 
+/// The set of those of the numbers that are below `n`.
 pub(crate) fn set_of(alloc: Global, n: usize, numbers: &[usize]) -> Result<EpochSet, Memory>
     ensures len { IfOk result (λ s. length s ≡ n) }
     ensures members { IfOk result (λ s. (k : ℕ) → k < n → has s k ≡ is_among numbers.now k) }
@@ -64,7 +60,7 @@ pub(crate) fn set_of(alloc: Global, n: usize, numbers: &[usize]) -> Result<Epoch
 }
 
 /// The superclasses of a class that have fewer superclasses.
-fn larger(alloc: Global, classes: &Superclasses, g: usize) -> Result<Vec<u32>, Memory>
+pub(crate) fn larger(alloc: Global, classes: &Superclasses, g: usize) -> Result<Vec<u32>, Memory>
     ensures { IfOk result
         (λ v. v.items ≡ filter (λ h. nat_lt (length (list_at classes.now h)) (length (list_at classes.now g))) (list_at classes.now g)) }
 {
@@ -78,7 +74,7 @@ fn larger(alloc: Global, classes: &Superclasses, g: usize) -> Result<Vec<u32>, M
 }
 
 /// The superclasses of a class that have as many superclasses.
-fn as_large(alloc: Global, classes: &Superclasses, g: usize) -> Result<Vec<u32>, Memory>
+pub(crate) fn as_large(alloc: Global, classes: &Superclasses, g: usize) -> Result<Vec<u32>, Memory>
     ensures { IfOk result
         (λ v. v.items ≡ filter (λ h. nat_eq (length (list_at classes.now h)) (length (list_at classes.now g))) (list_at classes.now g)) }
 {
@@ -92,7 +88,7 @@ fn as_large(alloc: Global, classes: &Superclasses, g: usize) -> Result<Vec<u32>,
 }
 
 /// Those of the numbers that the set has.
-fn held(alloc: Global, set: &EpochSet, numbers: &[u32]) -> Result<Vec<u32>, Memory>
+pub(crate) fn held(alloc: Global, set: &EpochSet, numbers: &[u32]) -> Result<Vec<u32>, Memory>
     ensures { IfOk result (λ v. v.items ≡ filter (has set.now) numbers.now) }
 {
     let numbers = numbers.iter().copied();
@@ -101,69 +97,4 @@ fn held(alloc: Global, set: &EpochSet, numbers: &[u32]) -> Result<Vec<u32>, Memo
             .filter(|c| set.contains(*c as usize))
             .collect(alloc)?,
     )
-}
-
-/// The classes of a class's group, in byte order.
-pub(crate) fn group_of(
-    alloc: Global,
-    names: &[String],
-    classes: &Superclasses,
-    g: usize,
-) -> Result<Vec<usize>, Memory>
-    requires superclasses { AreSuperclasses classes.now }
-    requires long { length names.now ≡ length classes.now }
-    ensures { IfOk result (λ v. v.items ≡ group (is_listed classes.now) (in_byte_order (map string_bytes names.now)) g) }
-{
-    let same = as_large(alloc, classes, g)?;
-    let group = sorted_by_name(alloc, names, &same)?;
-    Ok(group)
-}
-
-/// The classes that stand for the groups directly above a class, in byte order.
-pub(crate) fn groups_above(
-    alloc: Global,
-    names: &[String],
-    classes: &Superclasses,
-    marks: &mut Marks,
-    leading: &EpochSet,
-    g: usize,
-) -> Result<Vec<usize>, Memory>
-    requires superclasses { AreSuperclasses classes.now }
-    requires long { length names.now ≡ length classes.now }
-    requires room { HasRoom (length classes.now) marks.old }
-    requires leading { Leads classes.now (map string_bytes names.now) leading.now }
-    ensures room { HasRoom (length classes.now) marks.new }
-    ensures direct { IfOk result
-        (λ v. v.items
-        ≡ filter (is_directly_above (is_listed classes.now) (length classes.now) g)
-        (groups (is_listed classes.now) (in_byte_order (map string_bytes names.now)))) }
-{
-    let higher = larger(alloc, classes, g)?;
-    let direct = least_of(alloc, marks, classes, &higher)?;
-    let shown = held(alloc, leading, &direct)?;
-    let above = sorted_by_name(alloc, names, &shown)?;
-    Ok(above)
-}
-
-/// The classes that stand for the least groups of these classes, in byte order.
-pub(crate) fn least_types(
-    alloc: Global,
-    names: &[String],
-    classes: &Superclasses,
-    marks: &mut Marks,
-    leading: &EpochSet,
-    types: &[u32],
-) -> Result<Vec<usize>, Memory>
-    requires superclasses { AreSuperclasses classes.now }
-    requires long { length names.now ≡ length classes.now }
-    requires room { HasRoom (length classes.now) marks.old }
-    requires leading { Leads classes.now (map string_bytes names.now) leading.now }
-    ensures room { HasRoom (length classes.now) marks.new }
-    ensures least { IfOk result (λ v. v.items ≡ least_groups (map string_bytes names.now) (is_listed classes.now) (is_among types.now)) }
-{
-    let least = least_of(alloc, marks, classes, types)?;
-    let shown = held(alloc, leading, &least)?;
-    let once = once_of(alloc, &mut marks.above, &shown)?;
-    let groups = sorted_by_name(alloc, names, &once)?;
-    Ok(groups)
 }

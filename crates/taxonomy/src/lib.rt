@@ -5,6 +5,7 @@ mod collecting;
 mod groups;
 mod instances_text;
 mod least;
+mod lent;
 mod names;
 mod order;
 mod outcome;
@@ -16,6 +17,8 @@ mod theory;
 mod write;
 
 pub use device::WriteFault;
+pub use lent::Groups;
+pub use order::in_byte_order;
 pub use outcome::{Outcome, instances_bytes, taxonomy_bytes};
 pub use reduction::{Taxonomy, reduce};
 pub use relation::Relation;

@@ -46,8 +46,12 @@ fn numbers(alloc: Global, pairs: &[(&str, usize)]) -> Result<Vec<usize>, Memory>
     Ok(pairs.iter().map(|p| p.1).collect(alloc)?)
 }
 
-/// All class numbers, in the byte order of their names.
-pub(crate) fn in_byte_order(alloc: Global, names: &[String]) -> Result<Vec<usize>, Memory>
+/// The numbers of the names, in the byte order of these.
+///
+/// # Errors
+///
+/// `Memory` where memory was refused.
+pub fn in_byte_order(alloc: Global, names: &[String]) -> Result<Vec<usize>, Memory>
     ensures { IfOk result (λ v. v.items ≡ in_byte_order (map string_bytes names.now)) }
 {
     let mut pairs = numbered(alloc, names)?;

@@ -2,19 +2,14 @@
 ghost use Rattle.std.specs.List.{filter, flat_map};
 ghost use Rattle.std.specs.Prelude.{◌++◌, ◌≡◌, IfOk, OnOk, codes, length, map};
 ghost use Rattle.std.specs.String.{string_bytes};
-ghost use Rattle.taxonomy.specs.ClassMarks.{HasRoom, Leads};
-ghost use Rattle.taxonomy.specs.Relation.{is_listed, lies_below};
-ghost use Rattle.taxonomy.specs.Superclasses.{AreSuperclasses};
-ghost use Rattle.taxonomy.specs.Texts.{group, group_line, groups, in_byte_order, is_no_bottom, line_feed, line_of, listed, nothing_class, taxonomy_text};
+ghost use Rattle.taxonomy.specs.Relation.{lies_below};
+ghost use Rattle.taxonomy.specs.Texts as texts;
+ghost use Rattle.taxonomy.specs.Texts.{group, group_line, in_byte_order, is_no_bottom, line_feed, line_of, listed, nothing_class, taxonomy_text};
 
-use crate::groups::{group_of, groups_above, leaders, set_of};
-use crate::least::{Marks, no_marks};
+use crate::lent::Groups;
 use crate::names::write_names;
-use crate::order::in_byte_order;
 use crate::reduction::Taxonomy;
-use crate::superclasses::Superclasses;
 use axioms::{ClassId, Memory};
-use number_sets::EpochSet;
 use std::alloc::Global;
 
 /// Adds the line of these members of a group, with what stands for the groups directly above it.
@@ -34,95 +29,48 @@ fn write_line(
 }
 
 /// Adds the line of a class's group.
-fn write_group(
-    alloc: Global,
-    out: &mut Vec<u8>,
-    names: &[String],
-    classes: &Superclasses,
-    marks: &mut Marks,
-    leading: &EpochSet,
-    g: usize,
-) -> Result<(), Memory>
-    requires superclasses { AreSuperclasses classes.now }
-    requires long { length names.now ≡ length classes.now }
-    requires room { HasRoom (length classes.now) marks.old }
-    requires leading { Leads classes.now (map string_bytes names.now) leading.now }
-    ensures room { HasRoom (length classes.now) marks.new }
+fn write_group(out: &mut Vec<u8>, groups: &mut Groups, g: usize) -> Result<(), Memory>
+    ensures same { groups.new ≡ groups.old }
     ensures line { OnOk result
         (out.new.items
-        ≡ out.old.items ++ group_line (map string_bytes names.now) (is_listed classes.now) (in_byte_order (map string_bytes names.now)) g) }
+        ≡ out.old.items ++ group_line groups.old.names (lies_below groups.old.rows) (in_byte_order groups.old.names) g) }
 {
-    let members = group_of(alloc, names, classes, g)?;
-    let above = groups_above(alloc, names, classes, marks, leading, g)?;
-    write_line(out, names, &members, &above)
+    let members = groups.members(g)?;
+    let above = groups.directly_above(g)?;
+    write_line(out, groups.names(), &members, &above)
 }
 
-/// Adds the lines of these groups but that of owl:Nothing.
-fn write_groups(
-    alloc: Global,
-    out: &mut Vec<u8>,
-    names: &[String],
-    classes: &Superclasses,
-    leaders: &[usize],
-) -> Result<(), Memory>
-    requires superclasses { AreSuperclasses classes.now }
-    requires long { length names.now ≡ length classes.now }
-    requires leaders { leaders.now ≡ groups (is_listed classes.now) (in_byte_order (map string_bytes names.now)) }
-    ensures { OnOk result
+/// Adds the lines of the groups but that of owl:Nothing.
+fn write_groups(out: &mut Vec<u8>, groups: &mut Groups) -> Result<(), Memory>
+    ensures same { groups.new ≡ groups.old }
+    ensures lines { OnOk result
         (out.new.items
         ≡ out.old.items
-        ++ flat_map (group_line (map string_bytes names.now) (is_listed classes.now) (in_byte_order (map string_bytes names.now)))
-        (filter (is_no_bottom (is_listed classes.now)) leaders.now)) }
+        ++ flat_map (group_line groups.old.names (lies_below groups.old.rows) (in_byte_order groups.old.names))
+        (filter (is_no_bottom (lies_below groups.old.rows)) (texts.groups (lies_below groups.old.rows) (in_byte_order groups.old.names)))) }
 {
-    let mut marks = no_marks(alloc, classes.len())?;
-    let leading = set_of(alloc, classes.len(), leaders)?;
-    for g in leaders {
-        if !classes.is_same(*g, ClassId::NOTHING.0 as usize) {
-            write_group(alloc, out, names, classes, &mut marks, &leading, *g)?;
+    let firsts = groups.firsts()?;
+    for g in &firsts {
+        if !groups.is_same(*g, ClassId::NOTHING.0 as usize) {
+            write_group(out, groups, *g)?;
         }
     }
     Ok(())
 }
 
 /// Adds the line of the group of owl:Nothing.
-fn write_bottom(
-    alloc: Global,
-    out: &mut Vec<u8>,
-    names: &[String],
-    classes: &Superclasses,
-) -> Result<(), Memory>
-    requires superclasses { AreSuperclasses classes.now }
-    requires long { length names.now ≡ length classes.now }
+fn write_bottom(out: &mut Vec<u8>, groups: &Groups) -> Result<(), Memory>
     ensures { OnOk result
         (out.new.items
         ≡ out.old.items
-        ++ (listed (map string_bytes names.now) (codes "bottom ") (codes " = ")
-        (group (is_listed classes.now) (in_byte_order (map string_bytes names.now)) nothing_class)
+        ++ (listed groups.now.names (codes "bottom ") (codes " = ")
+        (group (lies_below groups.now.rows) (in_byte_order groups.now.names) nothing_class)
         ++ line_feed)) }
 {
-    let bottom = group_of(alloc, names, classes, ClassId::NOTHING.0 as usize)?;
-    write_names(out, names, b"bottom ", b" = ", &bottom)?;
+    let bottom = groups.members(ClassId::NOTHING.0 as usize)?;
+    write_names(out, groups.names(), b"bottom ", b" = ", &bottom)?;
     out.push(b'\n')?;
     Ok(())
-}
-
-/// The text of the classes that have these names.
-fn text_of_classes(
-    alloc: Global,
-    names: &[String],
-    classes: &Superclasses,
-) -> Result<Vec<u8>, Memory>
-    requires superclasses { AreSuperclasses classes.now }
-    requires long { length names.now ≡ length classes.now }
-    ensures { IfOk result (λ v. v.items ≡ taxonomy_text (map string_bytes names.now) (is_listed classes.now)) }
-{
-    let order = in_byte_order(alloc, names)?;
-    let leaders = leaders(alloc, classes, &order)?;
-    let mut out = Vec::new(alloc);
-    out.extend_from_slice(b"eltax 1 consistent\n")?;
-    write_groups(alloc, &mut out, names, classes, &leaders)?;
-    write_bottom(alloc, &mut out, names, classes)?;
-    Ok(out)
 }
 
 /// The text of a taxonomy of the classes that have these names.
@@ -134,6 +82,10 @@ pub(crate) fn text_of_taxonomy(
     requires { length names.now ≡ length taxonomy.now }
     ensures { IfOk result (λ v. v.items ≡ taxonomy_text (map string_bytes names.now) (lies_below taxonomy.now)) }
 {
-    let text = text_of_classes(alloc, names, &taxonomy.above)?;
-    Ok(text)
+    let mut groups = Groups::of(alloc, names, taxonomy)?;
+    let mut out = Vec::new(alloc);
+    out.extend_from_slice(b"eltax 1 consistent\n")?;
+    write_groups(&mut out, &mut groups)?;
+    write_bottom(&mut out, &groups)?;
+    Ok(out)
 }
