@@ -170,8 +170,13 @@ fn push_pair(
     out.extend_from_slice(b")")
 }
 
-/// Adds the axiom in the functional syntax, with full IRIs and single spaces.
-fn push_axiom(out: &mut Vec<u8>, ontology: &Ontology, stated: &Axiom) -> Result<(), AllocError>
+/// Adds the axiom in the functional syntax, with full IRIs and single spaces. Where memory was refused nothing is said of what was
+/// added.
+///
+/// # Errors
+///
+/// `AllocError` where memory was refused.
+pub fn write_axiom(out: &mut Vec<u8>, ontology: &Ontology, stated: &Axiom) -> Result<(), AllocError>
     requires { IsAxiomOf ontology.now (axiom_of stated.now) }
     ensures { OnOk result (out.new.items ≡ out.old.items ++ axiom_text (axiom_tree ontology.now (axiom_of stated.now))) }
 {
@@ -242,7 +247,7 @@ pub fn axiom_bytes(
         return Ok(None);
     };
     let mut out = Vec::new(alloc);
-    push_axiom(&mut out, ontology, axiom)?;
+    write_axiom(&mut out, ontology, axiom)?;
     out.push(b'\n')?;
     Ok(Some(out))
 }

@@ -17,4 +17,4 @@ pub use answers::{
     proof_bytes, proof_graph_bytes, reached_refutation_bytes, reached_refutation_graph_bytes,
     refutation_bytes, refutation_graph_bytes, write_proof,
 };
-pub use axiom::axiom_bytes;
+pub use axiom::{axiom_bytes, write_axiom};

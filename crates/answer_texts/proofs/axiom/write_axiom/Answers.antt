@@ -4,7 +4,7 @@ use Rattle.axioms.specs.Ontology.{axiom_tree, expressions, property_name}
 use Rattle.axioms.specs.View.{axiom_of, expr_numbers, prop_numbers}
 use Rattle.answer_texts.specs.Axioms.{axiom_text, form}
 use Rattle.answer_texts.specs.Names.{expression_text, name_text}
-use Rattle.answer_texts.proofs.axiom.push_axiom.Goals as goal
+use Rattle.answer_texts.proofs.axiom.write_axiom.Goals as goal
 
 pub returns-in-EquivalentClasses : goal.returns-in-EquivalentClasses
 returns-in-EquivalentClasses c =
