@@ -1,0 +1,2 @@
+pub mod Inferred
+pub mod Theorems
