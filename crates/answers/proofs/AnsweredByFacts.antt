@@ -27,7 +27,7 @@ use Rattle.answers.specs.Names.{AreThose, IsMarked}
 use Rattle.answers.specs.declared.selection.Selection.{Selection}
 use Rattle.answers.specs.declared.selection.Selection.TheVariants.{Above, Below, Members}
 use Rattle.answers.proofs.Deriving.{named_tree}
-use Rattle.answers.proofs.Following.{below_by_facts, members_by_facts}
+use Rattle.classification.proofs.Following.{below_by_facts, members_by_facts}
 use Rattle.answers.proofs.Naming.{those_same}
 
 module _ (o : Ontology) (w : IsOntology o) (s : Saturated) (h : IsSaturated o s) where

@@ -1,7 +1,7 @@
 -- What a derivation that was found, and one that was not, say of what is asked.
 use Rattle.std.proofs.Common.{◌≡◌, ℕ, ◌<◌, Option, Some, None, MatchOption, List, [], ◌∷◌, ◌++◌, length, sym, subst}
 use Rattle.std.proofs.lemmas.List.{length-map}
-use Rattle.answers.proofs.Following.{contradictory}
+use Rattle.classification.proofs.Following.{contradictory}
 use Rattle.axioms.specs.Expression.{Iri}
 use Rattle.axioms.specs.Ontology.{Ontology, nothing}
 use Rattle.axioms.specs.WellFormedness.{IsOntology}

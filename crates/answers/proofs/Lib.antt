@@ -1,7 +1,5 @@
-pub mod Deciding
-pub mod Existing
-pub mod Following
 pub mod Naming
+pub mod MarkWords
 pub mod Marking
 pub mod AnsweredByFacts
 pub mod NamedThings
@@ -9,7 +7,6 @@ pub mod Deriving
 pub mod Refuting
 pub mod Explaining
 pub mod Knowing
-pub mod Leading
 pub mod MarkedFacts
 pub mod Below
 pub mod Listing

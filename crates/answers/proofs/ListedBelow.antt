@@ -17,7 +17,7 @@ use Rattle.taxonomy.specs.Relation.{is_listed}
 use Rattle.answers.specs.Entailment.{LiesBelow}
 use Rattle.answers.specs.Names.{IsMarked}
 use Rattle.answers.specs.Neighbours.{AreSatisfiable, PutsMarked}
-use Rattle.answers.proofs.Following.{below_by_facts}
+use Rattle.classification.proofs.Following.{below_by_facts}
 use Rattle.answers.proofs.Naming.{name_is}
 
 module _ (o : Ontology) (w : IsOntology o) (s : Saturated) (h : IsSaturated o s) (marks : List Bool) (long : length marks ≡ length o.names.classes) (satisfiable : AreSatisfiable o marks)

@@ -1,5 +1,5 @@
 -- Names by their marks, and in byte order.
-use Rattle.std.proofs.Common.{◌≡◌, ◌↔◌, ℕ, ◌+◌, ◌<◌, ⊎_elim, All, Bool, true, false, List, [], ◌∷◌, ◌++◌, length, map, slice_get, get_or, Some, Contains, Bor, take, refl, sym, ap, ap₂, ◌∙◌, subst, arith, below_more}
+use Rattle.std.proofs.Common.{◌≡◌, ◌↔◌, ℕ, ◌+◌, ◌<◌, ◌≤◌, ⊎_elim, All, Bool, true, false, List, [], ◌∷◌, ◌++◌, length, map, slice_get, get_or, Some, Contains, Bor, take, refl, sym, ap, ap₂, ◌∙◌, subst, arith, below_more}
 use Rattle.std.specs.Cmp.Lexicographic.{slice_cmp}
 use Rattle.std.specs.List.Sorted.{IsPermutation, IsSorted}
 use Rattle.std.specs.declared.cmp.Ordering.{Ordering}
@@ -7,7 +7,7 @@ use Rattle.std.specs.declared.cmp.Ordering.TheVariants.{Less, Equal, Greater}
 use Rattle.std.specs.Ordering.{is_lt, is_eq, nat_cmp, ordering_reverse}
 use Rattle.std.specs.List.{IsDistinct}
 use Rattle.std.specs.Str.{bytes_eq}
-use Rattle.std.proofs.lemmas.Bool.{false_from_ne_true}
+use Rattle.std.proofs.lemmas.Bool.{cases_lt, false_from_ne_true}
 use Rattle.std.proofs.lemmas.Cmp.{nat_list_cmp_total}
 use Rattle.std.proofs.lemmas.List.{get_or-map, length-map, map-append}
 use Rattle.std.proofs.lemmas.List.Sorted.{Contains-permutation, IsPermutation-map, IsPermutation-sym, ranks_by, sorted_far}
@@ -60,12 +60,15 @@ none_marked names marks = record {
 }
 
 module _ (k : ℕ) (names : List Iri) (marks : List Bool) (found : List Iri) (was : AreMarkedBelow k names marks found) where
-  pub not_marked : (IsMarked marks k → ⊥) → AreMarkedBelow (k + 1) names marks found
-  not_marked other = record {
+  -- the same up to a later number, where from here on none that is marked has a name
+  pub none_between : (l : ℕ) → k ≤ l → ((n : ℕ) (name : Iri) → k ≤ n → n < l → slice_get names n ≡ Some name → IsMarked marks n → ⊥) → AreMarkedBelow l names marks found
+  none_between l up none = record {
     distinct = was.distinct;
     each = λ m name h. (let (n, at, (low, mark)) = was.each m name h in (n, at, (omega arith, mark)));
-    all = λ n name at (low, mark). below_more (λ n. (x : Iri) → slice_get names n ≡ Some x → IsMarked marks n → (m : ℕ) × (slice_get found m ≡ Some x)) k
-        (λ n low x at mark. was.all n x at (low, mark)) (λ x at mark. absurd (other mark)) n low name at mark;
+    all = λ n name at (low, mark). ⊎_elim
+        (λ below. was.all n name at (below, mark))
+        (λ above. absurd (none n name above low at mark))
+        (cases_lt n k);
   }
 
   pub one_marked : (name : Iri) → AreDistinct names → slice_get names k ≡ Some name → IsMarked marks k → AreMarkedBelow (k + 1) names marks (found ++ name ∷ [])

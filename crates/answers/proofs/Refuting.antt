@@ -26,7 +26,7 @@ use Rattle.answers.specs.Findings.{IsPartFor, IsRefutable}
 use Rattle.program.specs.declared.question.Asked.{Asked}
 use Rattle.program.specs.declared.question.Asked.TheVariants as asked
 use Rattle.answers.proofs.Deriving.{named_tree}
-use Rattle.answers.proofs.Leading.{fact_of_leader}
+use Rattle.classification.proofs.Leading.{fact_of_leader}
 
 -- a number stands at one place of a list that ascends
 one_place : (xs : List ℕ) → IsStrictlyIncreasing xs → (m n x : ℕ) → slice_get xs m ≡ Some x → slice_get xs n ≡ Some x → m ≡ n

@@ -2,11 +2,35 @@
 ghost use Rattle.answers.specs.Names.{AreMarkedBelow, AreThose, HasMark, HasNumber};
 ghost use Rattle.axioms.specs.Ontology.{name_at};
 ghost use Rattle.axioms.specs.WellFormedness.{AreDistinct};
-ghost use Rattle.std.specs.Prelude.{◌≡◌, ◌<◌, All, Contains, IfOk, length, map, string_bytes};
+ghost use Rattle.std.specs.Prelude.{◌*◌, ◌+◌, ◌<◌, ◌^◌, ◌≡◌, All, Contains, IfOk, length, map, string_bytes};
 
 use axioms::Memory;
 use number_sets::Row;
 use std::alloc::Global;
+
+/// Adds the names that word `j` of the marks has a mark on, in the order of the names.
+fn push_marked<'a>(
+    found: &mut Vec<&'a str>,
+    names: &'a [String],
+    marks: &Row,
+    j: usize,
+) -> Result<(), Memory>
+    requires distinct { AreDistinct (map string_bytes names.now) }
+    requires within { (64 * j < length marks.now) × (length marks.now < 2 ^ 64) }
+    requires before { AreMarkedBelow (64 * j) (map string_bytes names.now) marks.now (map (λ s. s.now) found.old.items) }
+    ensures { IfOk result
+        (λ _. AreMarkedBelow (64 * (j + 1)) (map string_bytes names.now) marks.now (map (λ s. s.now) found.new.items)) }
+{
+    let mut left = marks.words()[j];
+    while left != 0 {
+        let bit = left.trailing_zeros() as usize;
+        if let Some(name) = names.get(64 * j + bit) {
+            found.push(name.as_str())?;
+        }
+        left &= !(1 << bit);
+    }
+    Ok(())
+}
 
 /// The names that are marked, in the order of the names.
 fn marked<'a>(alloc: Global, names: &'a [String], marks: &Row) -> Result<Vec<&'a str>, Memory>
@@ -15,9 +39,10 @@ fn marked<'a>(alloc: Global, names: &'a [String], marks: &Row) -> Result<Vec<&'a
         (λ v. AreMarkedBelow (length names.now) (map string_bytes names.now) marks.now (map (λ s. s.now) v.items)) }
 {
     let mut found = Vec::new(alloc);
-    for (n, name) in names.iter().enumerate() {
-        if marks.contains(n) {
-            found.push(name.as_str())?;
+    let words = marks.words();
+    for j in 0..marks.len().div_ceil(64) {
+        if words[j] != 0 {
+            push_marked(&mut found, names, marks, j)?;
         }
     }
     Ok(found)

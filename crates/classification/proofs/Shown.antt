@@ -1,20 +1,14 @@
 -- A certificate shows what a classification says.
-use Rattle.std.proofs.Common.{◌≡◌, ◌↔◌, ℕ, ◌<◌, Bool, true, false, List, [], length, Some, None, Option, IsTrue, refl, sym, subst, subst₂}
+use Rattle.std.proofs.Common.{◌≡◌, ℕ, Bool, true, false, List, Some, None, Option, refl, sym, subst, subst₂}
 use Rattle.std.specs.Prelude.{MatchOption}
-use Rattle.std.proofs.lemmas.List.Elements.{All-nil}
-use Rattle.std.proofs.lemmas.Bool.{false≢true}
-use Rattle.axioms.specs.Ontology.{Ontology, axiom_trees}
+use Rattle.axioms.specs.Ontology.{Ontology}
 use Rattle.axioms.specs.WellFormedness.{IsOntology}
-use Rattle.certificate.specs.Certificate.{Line, Listed, Certificate}
+use Rattle.certificate.specs.Certificate.{Listed, Certificate}
 use Rattle.certificate.specs.Writability.{IsSomeTextOf}
 use Rattle.cert_check.specs.Acceptance.{IsContradictionShown, IsAcceptable}
 use Rattle.cert_check.specs.Derivation.{IsDerivation}
-use Rattle.exactness.specs.ListedInterpretation.{IsConsistent}
-use Rattle.exactness.proofs.Complete.{complete_contradictory}
 use Rattle.exactness.specs.Acceptance.{ShowsClosure}
 use Rattle.exactness.proofs.Acceptance.{shown_is_acceptable}
-use Rattle.exactness.proofs.Exact.{contradiction_sound}
-use Rattle.interpretation_spec.specs.Interpretation.{IsContradictory}
 use Rattle.taxonomy.specs.Outcome.{IsMadeFor, taxonomy_of, instances_of}
 use Rattle.taxonomy.specs.Relation.{is_listed, lies_below}
 use Rattle.explain.proofs.Aiming.{has_last}
@@ -22,20 +16,6 @@ use Rattle.taxonomy.specs.declared.outcome.Outcome.{Outcome}
 use Rattle.taxonomy.specs.declared.outcome.Outcome.TheVariants.{Consistent, Inconsistent}
 use Rattle.classification.specs.Classifications.{AreTextsOf}
 use Rattle.classification.specs.Findings.{IsOutcomeOf, AreShown}
-
--- ---- consistent
-
-pub consistent_where : (o : Ontology) → IsOntology o → (consistent : Bool) → IsTrue consistent ↔ IsConsistent o [] → (lines : List Line) (listed : Option Listed) → AreShown o consistent lines listed
-    → (consistent ≡ true) ↔ (IsContradictory (axiom_trees o) → ⊥)
-consistent_where o w true is lines (Some listed) shown = (
-  λ t none. let l = shown.1 in complete_contradictory o [] l.elements l.i w (All-nil (λ e. e < length o.nodes)) l.interpretation none l.consistent,
-  λ some. refl,
-)
-consistent_where o w true is lines None shown = absurd shown
-consistent_where o w false is lines listed shown = (
-  λ t. absurd (false≢true t),
-  λ some. let sound = contradiction_sound o [] w in is.1 (record { things = λ fact. some (sound.0 fact); individuals = λ a l fact. some (sound.1 a fact) }),
-)
 
 -- ---- texts
 

@@ -5,6 +5,8 @@ ghost use Rattle.classification.specs.Findings.{IsCertificateOf, IsOutcomeOf};
 ghost use Rattle.exactness.specs.ListedInterpretation.{IsConsistent};
 ghost use Rattle.engine.specs.Saturations.{IsUnasked};
 ghost use Rattle.std.specs.Prelude.{◌↔◌, ◌≡◌, IfOk, IsTrue, false, length, true};
+ghost use Rattle.taxonomy.specs.Following.{IsWhatFollows};
+ghost use Rattle.taxonomy.specs.Outcome.{IsMadeFor};
 
 use crate::consistent::has_no_contradiction;
 use crate::relation::taxonomy_of;
@@ -26,6 +28,13 @@ pub struct Summary {
     pub individuals: usize,
     /// The facts of the closure.
     pub facts: u64,
+}
+
+/// What was found of an ontology, and its counts.
+#[derive(Drop)]
+pub struct Found {
+    pub summary: Summary,
+    pub outcome: Outcome,
 }
 
 /// The three texts of a classification, and its counts.
@@ -126,6 +135,26 @@ fn counted(closed: &Closed<'_>, consistent: bool) -> Summary
         individuals: ontology.individuals().len(),
         facts: closed.facts().len() as u64,
     }
+}
+
+/// What follows from the axioms of a saturated ontology, where nothing is asked about, and its counts.
+///
+/// # Errors
+///
+/// `Memory` where memory was refused.
+pub fn what_follows(closed: &Closed<'_>) -> Result<Found, Memory>
+    requires unasked { IsUnasked closed.now.saturation }
+    ensures counts { IfOk result (λ f. AreCountsOf closed.now.ontology f.summary) }
+    ensures facts { IfOk result (λ f. f.summary.facts ≡ length closed.now.saturation.state.facts) }
+    ensures made_for { IfOk result (λ f. IsMadeFor closed.now.ontology f.outcome) }
+    ensures follows { IfOk result (λ f. IsWhatFollows closed.now.ontology f.outcome) }
+{
+    closed.well_formed();
+    let consistent = has_no_contradiction(closed);
+    Ok(Found {
+        summary: counted(closed, consistent),
+        outcome: outcome(closed, consistent)?,
+    })
 }
 
 /// The taxonomy and the instances of the closure.

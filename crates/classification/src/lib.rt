@@ -7,6 +7,6 @@ mod pairs;
 mod relation;
 mod types;
 
-pub use classification::{Classification, Summary, classified};
+pub use classification::{Classification, Found, Summary, classified, what_follows};
 pub use consistent::is_consistent;
 pub use pairs::{class_pair, type_pair};

@@ -1,4 +1,4 @@
-use Rattle.answers.proofs.Following.{contradictory}
+use Rattle.classification.proofs.Following.{contradictory}
 use Rattle.answers.proofs.derived.derived_contradiction.Goals as goal
 
 pub returns : goal.returns

@@ -1,23 +1,23 @@
-use Rattle.std.proofs.Common.{◌≡◌, ◌<◌, map, length, slice_get, Some, sym, ap, ◌∙◌, arith}
-use Rattle.std.proofs.lemmas.Bool.{false≢true}
-use Rattle.std.proofs.lemmas.Option.{slice_get-get_or}
+use Rattle.std.proofs.Common.{ℕ, ◌*◌, map, sym, subst, arith}
+use Rattle.std.specs.Prelude.{slice_index}
+use Rattle.std.proofs.lemmas.List.{length-map}
 use Rattle.std.specs.String.{string_bytes}
-use Rattle.lemmas.proofs.Mapped.{slice_get_map}
-use Rattle.answers.proofs.Naming.{not_marked, pushed}
+use Rattle.answers.specs.Names.{AreMarkedBelow}
+use Rattle.answers.proofs.MarkWords.{blank, through_words}
 use Rattle.answers.proofs.names.marked.Goals as goal
-use Rattle.answers.proofs.names.marked.Goals.{then-contains+in_ok-push, else-contains}
+use Rattle.answers.proofs.names.marked.Goals.{then-words-j-ne0+in_ok-push_marked, else-words-j-ne0}
 
-pub loop-n-preserved : goal.loop-n-preserved
-loop-n-preserved c =
+pub loop-j-preserved : goal.loop-j-preserved
+loop-j-preserved c =
     let names = map string_bytes c.args.names.now in
     let marks = c.args.marks.now in
-    let n = c.loop-n.n in
-    let s = c.index-names-n.result in
-    let there : n < length c.args.names.now = omega arith in
-    elim c.if-contains.branch [
-      | then-contains+in_ok-push w ↦
-          let at = slice_get_map string_bytes c.args.names.now n s (slice_get-get_or c.args.names.now n s there ∙ ap (λ x. Some x) (sym c.index-names-n.is)) in
-          let here : slice_get names n ≡ Some w.as_str.result.now = at ∙ ap (λ x. Some x) (sym w.as_str.ensures.value) in
-          pushed n names marks c.loop-n.found.items c.if-contains.found.items w.as_str.result c.loop-n.invariant (rw w.found-is w.in_ok-push.ensures.items) c.requires here (sym c.contains.ensures ∙ w.if-contains.true)
-      | else-contains w ↦ rw w.found-is (not_marked n names marks (map (λ s. s.now) c.loop-n.found.items) c.loop-n.invariant (λ mark. false≢true (sym w.if-contains.false ∙ c.contains.ensures ∙ mark)))
+    let found = map (λ s. s.now) c.loop-j.found.items in
+    let j : ℕ = c.loop-j.j in
+    elim c.if-words-j-ne0.branch [
+      | then-words-j-ne0+in_ok-push_marked w ↦ rw w.found-is w.in_ok-push_marked.ensures
+      | else-words-j-ne0 w ↦ rw w.found-is
+          (subst (λ n. AreMarkedBelow n names marks found) (omega arith) (blank marks names found (64 * j) (slice_index c.words-words.result.now j) (c.words-words.ensures.bits j) w.if-words-j-ne0.false c.loop-j.invariant))
     ]
+
+pub returns : goal.returns
+returns c = rw (sym (length-map c.args.names.now string_bytes)) (through_words c.args.marks.now (map string_bytes c.args.names.now) (map (λ s. s.now) c.loop-j.found.items) c.loop-j.j (omega arith) c.loop-j.invariant)

@@ -7,7 +7,7 @@ use Rattle.interpretation_spec.specs.NamedInterpretation.{interpretation_of}
 use Rattle.interpretation_spec.specs.NumberedInterpretation.{IsMadeFor}
 use Rattle.listed_model.specs.Listing.{IsListing}
 use Rattle.normalise.specs.Problem.{prefixes_of}
-use Rattle.answers.proofs.Existing.{listed}
+use Rattle.classification.proofs.Existing.{listed}
 use Rattle.answers.proofs.Lent.{same_ontology, whole_ontology, whole_saturation}
 use Rattle.answers.proofs.Parting.{part_reached}
 use Rattle.answers.proofs.refuted.part_for.Goals as goal

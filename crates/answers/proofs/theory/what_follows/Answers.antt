@@ -1,4 +1,4 @@
-use Rattle.answers.proofs.Following.{below_by_facts, members_by_facts, contradictory}
+use Rattle.classification.proofs.Following.{below_by_facts, members_by_facts, contradictory}
 use Rattle.answers.proofs.theory.what_follows.Goals as goal
 
 pub returns-clause-classes : goal.returns-clause-classes

@@ -2,21 +2,21 @@ use Rattle.axioms.specs.Ontology.{Ontology}
 use Rattle.axioms.specs.WellFormedness.{IsOntology}
 use Rattle.cert_check.proofs.Headline.{acceptable_says}
 use Rattle.cert_check.specs.Acceptance.{AreRight, IsAcceptable}
-use Rattle.exactness.specs.ListedInterpretation.{IsConsistent}
-use Rattle.std.proofs.Common.{◌↔◌, IsTrue, subst}
 use Rattle.std.specs.Prelude.{ℕ, List}
 use Rattle.classification.proofs.Counting.{counts_of}
-use Rattle.classification.proofs.Shown.{consistent_where, acceptable}
+use Rattle.classification.proofs.Following.{consistent_where}
+use Rattle.classification.proofs.Shown.{acceptable}
 use Rattle.classification.proofs.classification.classified.Goals as goal
 
 pub returns-clause-counts : goal.returns-clause-counts
 returns-clause-counts c =
     let o = c.args.closed.now.ontology in
-    let made = c.in_ok-certificate.ensures in
+    let s = c.args.closed.now.saturation in
+    let w = c.well_formed-2.ensures in
     let consistent = c.has_no_contradiction-consistent in
     let counted = c.counted.ensures in
-    counts_of o c.args.closed.now.saturation c.counted.result consistent.result c.well_formed-2.ensures.saturated c.requires.unasked counted.consistent counted.classes counted.individuals counted.facts
-    (consistent_where o c.well_formed-2.ensures.ontology consistent.result (subst (λ asked. IsTrue consistent.result ↔ IsConsistent o asked) c.requires.unasked consistent.ensures) made.certificate.lines made.certificate.listed made.shown)
+    counts_of o s c.counted.result consistent.result w.saturated c.requires.unasked counted.consistent counted.classes counted.individuals counted.facts
+    (consistent_where o w.ontology s w.saturated consistent.result consistent.ensures)
 
 pub returns-clause-facts : goal.returns-clause-facts
 returns-clause-facts c = c.counted.ensures.facts

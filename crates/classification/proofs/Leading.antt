@@ -1,5 +1,5 @@
 -- The context that has another's element: of an individual the least of its group.
-use Rattle.std.proofs.Common.{◌≡◌, ℕ, inl, inr, ⊎_elim, List, refl, ap, subst}
+use Rattle.std.proofs.Common.{◌≡◌, ℕ, inl, inr, ⊎_elim, List, subst}
 use Rattle.std.proofs.lemmas.Bool.{cases_eq}
 use Rattle.axioms.specs.Ontology.{Ontology}
 use Rattle.closure.specs.Closure.{Context, Expression, Individual, In, IsFact}
@@ -9,7 +9,7 @@ use Rattle.closure.proofs.Groups.{turned, same_as_least, is_least, least_unique}
 use Rattle.exactness.specs.ListedInterpretation.{Leads}
 use Rattle.normal_forms.specs.Forms.{Class2}
 use Rattle.countermodel.specs.Elements.{leader}
-use Rattle.answers.proofs.Deciding.{Decided}
+use Rattle.classification.proofs.Deciding.{Decided}
 
 module _ (o : Ontology) (asked : List ℕ) where
   least_itself : (a : ℕ) → IsLeast o asked a → least_same o a ≡ a

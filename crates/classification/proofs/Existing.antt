@@ -27,8 +27,8 @@ use Rattle.countermodel.proofs.Contexts.{context_has_thing}
 use Rattle.countermodel.proofs.Facts.{code_of, whole_said, satisfiable_within}
 use Rattle.countermodel.proofs.Listing.{HasListed, HasListedMore, none_listed, listed_more, listed_same, none_listed_more, individual_more, individual_same, no_individual, expressions_done, contexts_done}
 use Rattle.engine.specs.Saturations.{SayTheClosure}
-use Rattle.answers.proofs.Deciding.{Decided, is_yes, tells, SomeOf, some_of, same_context, is_in, Reach, reach, reach_same, reach_on}
-use Rattle.answers.proofs.Leading.{leading}
+use Rattle.classification.proofs.Deciding.{Decided, is_yes, tells, SomeOf, some_of, same_context, is_in, Reach, reach, reach_same, reach_on}
+use Rattle.classification.proofs.Leading.{leading}
 
 on : {o : Ontology} {asked : List ℕ} {r s t : Property2} → IsAtOrBelow o asked r s → IsAtOrBelow o asked s t → IsAtOrBelow o asked r t
 on h same = h

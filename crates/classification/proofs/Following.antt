@@ -1,5 +1,5 @@
 -- What follows from the axioms, by the facts of a saturation.
-use Rattle.std.proofs.Common.{◌↔◌, ℕ, ◌<◌, ◌⊎◌, inl, inr, ⊎_elim, List, length, get_or, arith}
+use Rattle.std.proofs.Common.{◌≡◌, ◌↔◌, ℕ, ◌<◌, ◌⊎◌, inl, inr, ⊎_elim, Bool, true, IsTrue, List, length, get_or, arith}
 use Rattle.std.proofs.lemmas.Bool.{cases_eq, cases_lt}
 use Rattle.std.proofs.lemmas.Option.{slice_get-get_or}
 use Rattle.std.proofs.lemmas.List.Elements.{All-contains}
@@ -20,8 +20,8 @@ use Rattle.normalise.specs.Problem.{prefixes_of}
 use Rattle.engine.specs.Saturations.{Saturated, IsSaturated}
 use Rattle.explain.specs.Marks.{IsContradictoryFact}
 use Rattle.classification.proofs.Saying.{consistent_by_facts}
-use Rattle.answers.proofs.Deciding.{Decided, some_of}
-use Rattle.answers.proofs.Existing.{has_fact, listed}
+use Rattle.classification.proofs.Deciding.{Decided, some_of}
+use Rattle.classification.proofs.Existing.{has_fact, listed}
 
 is_contradictory : (o : Ontology) (f : code_fact.Fact) → Decided (IsContradictoryFact o f)
 is_contradictory o (facts.In (classes.Expr c) (contexts.Expr e)) = ⊎_elim
@@ -55,6 +55,13 @@ module _ (o : Ontology) (w : IsOntology o) (s : Saturated) (h : IsSaturated o s)
   contradictory = (
     λ none c. (let (xs, i, l) = exists c in complete_contradictory o asked xs i w h.asked l none c),
     λ none i m. none (record { things = λ f. (contradiction_sound o asked w).0 f i m; individuals = λ a l f. (contradiction_sound o asked w).1 a f i m }),
+  )
+
+  -- what tells whether the closure is consistent tells whether there is an interpretation
+  pub consistent_where : (told : Bool) → IsTrue told ↔ IsConsistent o asked → (told ≡ true) ↔ (IsContradictory (axiom_trees o) → ⊥)
+  consistent_where told is = (
+    λ t none. contradictory.0 none (is.0 t),
+    λ some. ⊎_elim is.1 (λ n. absurd (some (contradictory.1 n))) consistent,
   )
 
   fact_of : (x : Context) (e : ℕ) → Decided (IsFact o asked (In (Whole e) x))
