@@ -29,7 +29,9 @@ SubClassOf(:A
 query 29
 ObjectSomeValuesFrom(:loc :Q)
 write a b c
+infer a
 write a b
+infer
 axiom 2
 axiom 4
 axiom 0
@@ -89,6 +91,10 @@ F8 at byte 21
 F8 at byte 26
 no 2 26
 no files are written here
+no 2 26
+no files are written here
+no 2 16
+unknown command
 no 2 16
 unknown command
 ok 24

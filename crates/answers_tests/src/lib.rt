@@ -22,6 +22,8 @@ mod generated_parts;
 #[cfg(test)]
 mod individuals;
 #[cfg(test)]
+mod inferences;
+#[cfg(test)]
 mod listings;
 #[cfg(test)]
 mod names;

@@ -27,8 +27,9 @@ use Rattle.profile.specs.declared.fault.DocumentFault.{DocumentFault}
 use Rattle.program.specs.declared.question.Question.{Question}
 use Rattle.program.specs.declared.version.Version.{Version}
 use Rattle.session.specs.Additions.{IsAddition, IsRefusedAddition}
-use Rattle.session.specs.Answers.{IsAskRefusal, IsMade, IsQuestioned, IsWritten}
+use Rattle.session.specs.Answers.{IsAskRefusal, IsMade, IsQuestioned, IsUnmade, IsWritten}
 use Rattle.session.specs.Classifications.{IsClassified}
+use Rattle.session.specs.Inferences.{IsInferred}
 use Rattle.session.specs.Queries.{IsQueryAnswer, IsQueryRefusal, NamesFound}
 use Rattle.session.specs.Sessions.{IsOpen, IsSession, KeepsText, Opened, as_read}
 use Rattle.session.specs.WrittenTexts.{Sinks, Texts}
@@ -39,21 +40,24 @@ use Rattle.shapes.specs.Faults.{axiom_faults, document_faults}
 
 -- ---- calls
 
--- what is asked of a session: to add, to run on, to answer, or to write, with a certificate in a format, to sinks that have taken so much
+-- what is asked of a session: to add, to run on, to answer, to write, with a certificate in a format, to sinks that have taken so much, or
+-- to infer
 pub data Call : Type 0 where
   Add : (text : List ℕ) → Call
   Resume : (max_facts : ℕ) → Call
   Ask : (question : Question) → Call
   Query : (text : List ℕ) (max_facts : ℕ) → Call
   Write : (format : Format) (before : Sinks) → Call
+  Infer : Call
 
--- what is answered: of writing also what the sinks have taken then
+-- what is answered: of writing also what the sinks have taken then, of inferring the counts and the text
 pub data Reply : Type 0 where
   Added : Result (Unit {0}) DocumentFault → Reply
   Resumed : Result (Unit {0}) Stop → Reply
   Answered : Result Answer AskFault → Reply
   Found : Result NamesFound QueryFault → Reply
   Written : (after : Sinks) → Result Summary WritingFault → Reply
+  Inferred : Result (Summary × List ℕ) WritingFault → Reply
 
 -- what the contract of the call says of the session before and after it, and of the answer; others are not given
 abbrev pub IsCall : (old : Opened) → Call → Reply → (new : Opened) → Type 0
@@ -66,6 +70,8 @@ IsCall old (Ask question) (Answered (Err fault)) new = IsAskRefusal old (names_i
 IsCall old (Query text most) (Found (Ok found)) new = IsQueryAnswer old text most found × (new ≡ old)
 IsCall old (Query text most) (Found (Err fault)) new = IsQueryRefusal old text most fault × (new ≡ old)
 IsCall old (Write format before) (Written after answer) new = IsWritten old format before after answer × (new ≡ old)
+IsCall old Infer (Inferred (Ok (summary, text))) new = IsFinished old.saturation × IsInferred old.ontology summary text × (new ≡ old)
+IsCall old Infer (Inferred (Err fault)) new = IsUnmade old fault × (new ≡ old)
 IsCall old call reply new = ⊥
 
 -- a session over the document of these bytes, of that version

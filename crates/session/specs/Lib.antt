@@ -10,4 +10,5 @@ pub mod Texts
 pub mod TextAnswers
 pub mod Run
 pub mod Classifications
+pub mod Inferences
 pub mod Edits

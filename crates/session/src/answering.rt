@@ -11,7 +11,7 @@ ghost use Rattle.std.specs.Prelude.{◌+◌, ◌<◌, IfErr, IfOk, IsErrOf};
 use crate::fault::AskFault;
 use crate::opening::run_session;
 use crate::question_fault::QuestionFault;
-use crate::run_fault::question_fault;
+use crate::run_fault::as_question_fault;
 use crate::session::Session;
 use crate::shown::answer_text;
 use device::Source;
@@ -71,6 +71,6 @@ pub fn question_text<'n, S: Source>(
             drop(session);
             answered
         }
-        Err(fault) => Err(question_fault(fault)),
+        Err(fault) => Err(as_question_fault(fault)),
     }
 }

@@ -79,6 +79,7 @@ pub(crate) fn run_session<S: Source>(
 ) -> Result<Session, RunFault>
     ensures run { IfOk result (λ s. IsRunAs limits.now (S.left source.old) (as_read s)) }
     ensures finished { IfOk result (λ s. IsFinished s.saturation) }
+    ensures within { IfOk result (λ s. length s.saturation.state.facts ≤ limits.now.max_facts) }
     ensures limit { IfOk result (λ s. s.most_bytes ≡ limits.now.max_bytes) }
     ensures fault { IfErr result (IsRunFault limits.now (S.left source.old)) }
     // Of a source that does not tell its bytes, too: it gave more than the limit.

@@ -14,7 +14,7 @@ use crate::opening::run_session;
 use crate::query_fault::QueryFault;
 use crate::querying::Answers;
 use crate::question_fault::QuestionFault;
-use crate::run_fault::question_fault;
+use crate::run_fault::as_question_fault;
 use crate::session::Session;
 use axioms::Memory;
 use device::Source;
@@ -89,6 +89,6 @@ pub fn query_text<S: Source>(
             drop(session);
             lines
         }
-        Err(fault) => Err(question_fault(fault)),
+        Err(fault) => Err(as_question_fault(fault)),
     }
 }

@@ -20,8 +20,8 @@ pub enum RunFault {
     Memory,
 }
 
-/// As a fault of a question.
-pub(crate) fn question_fault<'n>(fault: RunFault) -> QuestionFault<'n>
+/// The fault as one of a question about the document.
+pub fn as_question_fault<'n>(fault: RunFault) -> QuestionFault<'n>
     ensures { result ≡ told_as fault }
 {
     match fault {

@@ -12,7 +12,7 @@ use Rattle.profile.specs.declared.fault.DocumentFault.TheVariants as reading
 use Rattle.session.proofs.Calls.{edits_are_one_document}
 use Rattle.session.specs.Devices.{Device}
 use Rattle.session.specs.Edits as calls
-use Rattle.session.specs.Edits.{Call, Reply, Add, Added, Resumed, Answered, Found, Written, AreCalls, IsCall, IsOneDocument, IsSessionOver, added}
+use Rattle.session.specs.Edits.{Call, Reply, Add, Added, Resumed, Answered, Found, Written, Inferred, AreCalls, IsCall, IsOneDocument, IsSessionOver, added}
 use Rattle.session.specs.Sessions.{IsSession, Opened}
 use Rattle.session.specs.declared.question_fault.QuestionFault.TheVariants as faults
 use Rattle.speech.specs.Answers.{IsAnswerTold, IsFaultTold, IsStep, run_end, session_service}
@@ -62,6 +62,7 @@ add_tells limits size payload old new t (Resumed answer) h told = absurd h
 add_tells limits size payload old new t (Answered answer) h told = absurd h
 add_tells limits size payload old new t (Found answer) h told = absurd h
 add_tells limits size payload old new t (Written after answer) h told = absurd h
+add_tells limits size payload old new t (Inferred answer) h told = absurd h
 
 -- what a command does
 pub does : (limits : Limits) (old new : Opened) (command : Command) (payload : List ℕ) (t : Told) → IsStep limits old command payload t new → Does old (told_added (Some command) t.status payload) new
@@ -73,6 +74,7 @@ does limits old new (asked.Ask question) payload t h = Calls (calls.Ask question
 does limits old new (asked.Query size) payload t (inl h) = Calls (calls.Query payload limits.max_facts) h.reply h.called refl
 does limits old new (asked.Query size) payload t (inr (at, none, valid, said)) = Stays said.0 refl
 does limits old new (asked.Write paths) payload t (same, told) = Stays same refl
+does limits old new (asked.Infer path) payload t (same, told) = Stays same refl
 does limits old new (asked.Axiom number) payload t (same, told) = Stays same refl
 does limits old new asked.Status payload t (same, told) = Stays same refl
 does limits old new asked.Unsatisfiable payload t (class, is, h) = Calls (calls.Ask (Names Equivalents class)) h.reply h.called refl
@@ -96,6 +98,7 @@ passed_adds room (Some (asked.RunSome more)) payload = refl
 passed_adds room (Some (asked.Ask question)) payload = refl
 passed_adds room (Some (asked.Query size)) payload = refl
 passed_adds room (Some (asked.Write paths)) payload = refl
+passed_adds room (Some (asked.Infer path)) payload = refl
 passed_adds room (Some (asked.Axiom number)) payload = refl
 passed_adds room (Some asked.Status) payload = refl
 passed_adds room (Some asked.Unsatisfiable) payload = refl

@@ -17,7 +17,7 @@ use Rattle.program.specs.declared.question.Question.{Question}
 use Rattle.program.specs.declared.question.Question.TheVariants.{Names}
 use Rattle.program.specs.declared.question.Related.TheVariants.{Equivalents}
 use Rattle.program.specs.declared.status.Status.TheVariants as statuses
-use Rattle.session.specs.Edits.{Call, Reply, Add, Resume, Ask, Query, Added, Resumed, Answered, Found, Written, IsCall, added}
+use Rattle.session.specs.Edits.{Call, Reply, Add, Resume, Ask, Query, Added, Resumed, Answered, Found, Written, Inferred, IsCall, added}
 use Rattle.session.specs.Queries.{NamesFound, names_in}
 use Rattle.session.specs.Sessions.{IsSession, Opened}
 use Rattle.session.specs.TextAnswers.{IsAnswerText, query_lines}
@@ -141,6 +141,7 @@ IsAnswerTold limits (Ask question) s (Answered answer) t = IsAnsweredTold limits
 IsAnswerTold limits call s (Answered answer) t = ⊥
 IsAnswerTold limits call s (Found answer) t = IsFoundTold limits answer t
 IsAnswerTold limits call s (Written after answer) t = ⊥
+IsAnswerTold limits call s (Inferred answer) t = ⊥
 
 -- ---- what is done
 
@@ -182,6 +183,7 @@ IsStep limits old (asked.RunSome more) payload t new = IsRunTo limits (run_end l
 IsStep limits old (asked.Ask question) payload t new = IsCalled limits (Ask question) old t new
 IsStep limits old (asked.Query size) payload t new = IsTextCalled limits (λ text. Query text limits.max_facts) payload old t new
 IsStep limits old (asked.Write paths) payload t new = IsSaid (λ t. t ≡ unfiled) old t new
+IsStep limits old (asked.Infer path) payload t new = IsSaid (λ t. t ≡ unfiled) old t new
 IsStep limits old (asked.Axiom number) payload t new = IsSaid (λ t. t ≡ axiom_told number (axiom_at old.ontology number)) old t new
 IsStep limits old asked.Status payload t new = IsSaid (λ t. t ≡ done (status_text old)) old t new
 IsStep limits old asked.Unsatisfiable payload t new = IsCalledForEmpty limits old t new

@@ -9,8 +9,9 @@ use Rattle.program.specs.declared.question.Asked.TheVariants.{Class, Individual}
 use Rattle.program.specs.declared.question.Question.{Question}
 use Rattle.program.specs.declared.question.Question.TheVariants.{Names, Groups, Why}
 use Rattle.speech.specs.declared.command.Command.{Command}
-use Rattle.speech.specs.declared.command.TextPaths.{TextPaths}
-use Rattle.speech.specs.declared.command.Command.TheVariants.{Add, Run, RunSome, Ask, Query, Write, Axiom, Status, Unsatisfiable, Version}
+use Rattle.speech.specs.declared.command.Writing.{Writing}
+use Rattle.speech.specs.declared.command.Writing.TheVariants.{Texts, Inferred}
+use Rattle.speech.specs.declared.command.Command.TheVariants.{Add, Run, RunSome, Ask, Query, Write, Infer, Axiom, Status, Unsatisfiable, Version}
 use Rattle.speech.specs.declared.line.CommandFault.{CommandFault}
 use Rattle.speech.specs.declared.line.CommandFault.TheVariants as faults
 use Rattle.speech.specs.declared.words.Words.{Words}
@@ -51,6 +52,7 @@ words_of (RunSome more) = codes "run" ∷ decimal more ∷ []
 words_of (Ask question) = question_words question
 words_of (Query size) = codes "query" ∷ decimal size ∷ []
 words_of (Write paths) = codes "write" ∷ paths.taxonomy.now ∷ paths.instances.now ∷ paths.certificate.now ∷ []
+words_of (Infer path) = codes "infer" ∷ path.now ∷ []
 words_of (Axiom number) = codes "axiom" ∷ decimal number ∷ []
 words_of Status = codes "status" ∷ []
 words_of Unsatisfiable = codes "unsatisfiable" ∷ []
@@ -62,10 +64,11 @@ payload_size (Add size) = Some size
 payload_size (Query size) = Some size
 payload_size command = None
 
--- the paths of the files that a command asks to write
-abbrev pub text_paths : Command → Option TextPaths
-text_paths (Write paths) = Some paths
-text_paths command = None
+-- what a command asks to write into files
+abbrev pub writing_of : Command → Option Writing
+writing_of (Write paths) = Some (Texts paths)
+writing_of (Infer path) = Some (Inferred path)
+writing_of command = None
 
 -- the number in a command is one that it may have: in 64 bits, and of facts from 1 on and in 32 bits
 abbrev pub IsCounted : Command → Type 0

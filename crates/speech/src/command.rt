@@ -1,5 +1,5 @@
 //! Commands.
-ghost use Rattle.speech.specs.Commands.{payload_size, text_paths};
+ghost use Rattle.speech.specs.Commands.{payload_size, writing_of};
 ghost use Rattle.std.specs.Prelude.{◌≡◌};
 
 use program::Question;
@@ -10,6 +10,15 @@ pub struct TextPaths<'l> {
     pub taxonomy: &'l str,
     pub instances: &'l str,
     pub certificate: &'l str,
+}
+
+/// What a command asks to write into files.
+#[derive(Clone, Copy, PartialEq, Eq)]
+pub enum Writing<'l> {
+    /// The texts of a classification.
+    Texts(TextPaths<'l>),
+    /// What follows from the axioms, as a document.
+    Inferred(&'l str),
 }
 
 /// What is asked of a session. Names are IRIs without brackets.
@@ -27,6 +36,8 @@ pub enum Command<'l> {
     Query(u64),
     /// To write the texts of the classification into files.
     Write(TextPaths<'l>),
+    /// To write what follows from the axioms into the file at the path, as a document.
+    Infer(&'l str),
     /// The axiom of that number, counted from 1 as explanations cite it.
     Axiom(u64),
     /// How many facts there are, how many are served, and how many bytes.
@@ -49,12 +60,13 @@ impl<'l> Command<'l> {
         }
     }
 
-    /// The paths of the files that the command asks to write, where it asks for that.
-    pub fn text_paths(&self) -> Option<TextPaths<'l>>
-        ensures { result ≡ text_paths self.now }
+    /// What the command asks to write into which files, where it asks for that.
+    pub fn writing(&self) -> Option<Writing<'l>>
+        ensures { result ≡ writing_of self.now }
     {
         match self {
-            Command::Write(paths) => Some(*paths),
+            Command::Write(paths) => Some(Writing::Texts(*paths)),
+            Command::Infer(path) => Some(Writing::Inferred(*path)),
             _ => None,
         }
     }

@@ -43,6 +43,7 @@ fn command_with_word<'l>(verb: &str, word: &'l str) -> Option<Command<'l>>
         "query" => Some(Command::Query(size_of_word(word)?)),
         "run" => Some(Command::RunSome(count_of_word(word)?)),
         "axiom" => Some(Command::Axiom(size_of_word(word)?)),
+        "infer" => Some(Command::Infer(word)),
         _ => Some(Command::Ask(question_of_class(verb, word)?)),
     }
 }

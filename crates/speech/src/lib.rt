@@ -18,7 +18,7 @@ mod version;
 mod words;
 
 pub use answering::unfinished_reply;
-pub use command::{Command, TextPaths};
+pub use command::{Command, TextPaths, Writing};
 pub use commands::{MOST_LINE, command_of};
 pub use conversation::{Ending, converse};
 pub use editing::conversations_are_edits;

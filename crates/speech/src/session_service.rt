@@ -194,7 +194,7 @@ impl SessionService {
             Command::RunSome(more) => self.run_some(more),
             Command::Ask(question) => self.ask(question),
             Command::Query(_) => self.query(payload),
-            Command::Write(_) => unfiled_reply(self.alloc),
+            Command::Write(_) | Command::Infer(_) => unfiled_reply(self.alloc),
             Command::Axiom(number) => self.axiom(number),
             Command::Status => self.status(),
             Command::Unsatisfiable => self.unsatisfiable(),
