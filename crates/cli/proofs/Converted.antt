@@ -17,8 +17,8 @@ use Rattle.cli.proofs.Stored.{IsLeftBy, IsSome, sink_begins, sink_holds}
 use Rattle.cli.specs.Checks.{AreKnown, IsTextRead}
 use Rattle.cli.specs.Conversions.{AreBothRead, Converts, IsConversionAnswer, IsUntaken, conversion_fault}
 use Rattle.cli.specs.Files.{BlamesWrites, ConvertsFiles, IsSourceOf, NoWriteFails, Store}
-use Rattle.cli.specs.HeldTexts.{Holds, HoldsPrefix, Stays}
-use Rattle.cli.specs.Runs.{AreOtherFilesKept, IsConversionMade, IsConvertAnswer, format_of}
+use Rattle.cli.specs.HeldTexts.{AreOtherFilesKept, Holds, HoldsPrefix, Stays}
+use Rattle.cli.specs.Runs.{IsConversionMade, IsConvertAnswer, format_of}
 use Rattle.cli.specs.declared.fault.CheckFault.{CheckFault}
 use Rattle.cli.specs.declared.fault.CheckFault.TheVariants as checking
 use Rattle.cli.specs.declared.fault.ConversionFault.{ConversionFault}

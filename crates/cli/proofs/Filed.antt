@@ -20,7 +20,7 @@ use Rattle.session.proofs.Calls.{edits_are_one_document}
 use Rattle.session.proofs.Told.{progress_behind}
 use Rattle.session.specs.Answers.{IsWritten}
 use Rattle.session.specs.Devices.{Device, Takes, seen}
-use Rattle.session.specs.Edits.{Reply, Added, Resumed, Answered, Found, Written, Resume, IsCall, IsOneDocument, IsSessionOver}
+use Rattle.session.specs.Edits.{Reply, Added, Resumed, Answered, Found, Written, Inferred, Resume, IsCall, IsOneDocument, IsSessionOver}
 use Rattle.session.specs.Progress.{IsProgress}
 use Rattle.session.specs.Sessions.{IsSession, KeepsText, Opened}
 use Rattle.session.specs.WrittenTexts.{Sinks}
@@ -30,13 +30,14 @@ use Rattle.source_lines.specs.Sources.{SourceState}
 use Rattle.speech.proofs.SeenAs.{conversation_seen}
 use Rattle.speech.proofs.Edits.{Does, Stays, before, does, passed_adds_none, unasked}
 use Rattle.speech.specs.Answers.{session_service}
-use Rattle.speech.specs.Commands.{text_paths}
+use Rattle.speech.specs.Commands.{writing_of}
 use Rattle.speech.specs.Conversations.{AreExchanges, Exchange, IsAnswered, IsConversation, IsExchange}
 use Rattle.speech.specs.Editing.{AreCallsOf, texts_added, told_added}
 use Rattle.speech.specs.Replies.{Told, told}
 use Rattle.speech.specs.declared.command.Command.{Command}
 use Rattle.speech.specs.declared.command.Command.TheVariants as asked
-use Rattle.speech.specs.declared.command.TextPaths.{TextPaths}
+use Rattle.speech.specs.declared.command.Writing.{Writing}
+use Rattle.speech.specs.declared.command.Writing.TheVariants as writing
 use Rattle.speech.specs.declared.conversation.Ending.{Ending}
 use Rattle.speech.specs.declared.service.Service.{Ghosts}
 use Rattle.speech.specs.declared.session_service.SessionService.{SessionService}
@@ -91,9 +92,9 @@ stays_over {F} {In} {Out} {E} G S known told document first old new same is = le
 answered_over : {F In Out E : Type 0} (G : files.Ghosts F In Out) (S : sinks.Ghosts E) (known told : Bool) (document : Bor (List ℕ)) (first old new : FileService F E In Out) (command : Option Command) (payload : List ℕ) (t : Told)
     → IsOver G S known told document first old → IsAnswered (over G S) old command payload t new → IsAnswered (filing_service known told document) (filed G old) command payload t (filed G new) × IsOver G S known told document first new
 answered_over {F} {In} {Out} {E} G S known told document first old new (Some command) payload t is (inl (room, step)) =
-    let Files : Bool → Type 0 = λ k. IsFiledBy k old.told old.document (text_paths command) (filed G old) command payload t (filed G new) in
-    let Telling : Bool → Type 0 = λ b. IsFiledBy known b old.document (text_paths command) (filed G old) command payload t (filed G new) in
-    let Document : Bor (List ℕ) → Type 0 = λ d. IsFiledBy known told d (text_paths command) (filed G old) command payload t (filed G new) in
+    let Files : Bool → Type 0 = λ k. IsFiledBy k old.told old.document (writing_of command) (filed G old) command payload t (filed G new) in
+    let Telling : Bool → Type 0 = λ b. IsFiledBy known b old.document (writing_of command) (filed G old) command payload t (filed G new) in
+    let Document : Bor (List ℕ) → Type 0 = λ d. IsFiledBy known told d (writing_of command) (filed G old) command payload t (filed G new) in
     let Progress : Bool → Type 0 = λ b. IsProgress b (seen S old.err.now) (seen S new.err.now) in (
       inl (room, subst Document is.document_is (subst Telling is.told_is (subst Files is.known_is step.step))),
       record {
@@ -153,6 +154,7 @@ kept_by mid new most (Resumed answer) call = call.1
 kept_by mid new most (Answered answer) call = absurd call
 kept_by mid new most (Found answer) call = absurd call
 kept_by mid new most (Written after answer) call = absurd call
+kept_by mid new most (Inferred answer) call = absurd call
 
 pub kept_on : (old mid new : Opened) (most : ℕ) → KeepsText old mid → (reply : Reply) × IsCall mid (Resume most) reply new → KeepsText old new
 kept_on old mid new most kept (reply, call) =
@@ -162,13 +164,14 @@ kept_on old mid new most kept (reply, call) =
 -- ---- conversations as calls
 
 -- a command that writes adds nothing
-adds_none : (command : Command) (texts : TextPaths) (status : Status) (payload : List ℕ) → text_paths command ≡ Some texts → told_added (Some command) status payload ≡ []
+adds_none : (command : Command) (writing : Writing) (status : Status) (payload : List ℕ) → writing_of command ≡ Some writing → told_added (Some command) status payload ≡ []
 adds_none (asked.Add size) texts status payload is = absurd (cc)
 adds_none asked.Run texts status payload is = refl
 adds_none (asked.RunSome more) texts status payload is = refl
 adds_none (asked.Ask question) texts status payload is = refl
 adds_none (asked.Query size) texts status payload is = refl
 adds_none (asked.Write paths) texts status payload is = refl
+adds_none (asked.Infer path) texts status payload is = refl
 adds_none (asked.Axiom number) texts status payload is = refl
 adds_none asked.Status texts status payload is = refl
 adds_none asked.Unsatisfiable texts status payload is = refl
@@ -190,11 +193,14 @@ begun_before false old begun new xs same h = let P : SessionService → Type 0 =
 begun_before true old begun new xs is h = run_on_before old.limits old.session begun.session new xs is.1 h
 
 -- a command before other exchanges
-one_answered : (known told : Bool) (document : Bor (List ℕ)) (found : Option TextPaths) (old mid : Filed) (new : Opened) (x : Exchange) (xs : List Exchange) (command : Command) → x.command ≡ Some command → text_paths command ≡ found
+one_answered : (known told : Bool) (document : Bor (List ℕ)) (found : Option Writing) (old mid : Filed) (new : Opened) (x : Exchange) (xs : List Exchange) (command : Command) → x.command ≡ Some command → writing_of command ≡ found
     → IsFiledBy known told document found old command x.payload x.reply mid → AreCallsOf mid.service.session xs new → AreCallsOf old.service.session (x ∷ xs) new
-one_answered known told document (Some texts) old mid new x xs command is paths step h =
+one_answered known told document (Some (writing.Texts texts)) old mid new x xs command is paths step h =
     let P : Option Command → Type 0 = λ c. Does old.service.session (told_added c x.reply.status x.payload) mid.service.session in
-    before old.service.session mid.service.session new x xs step.session (subst P (sym is) (Stays (ap (λ s. s.session) step.service) (adds_none command texts x.reply.status x.payload paths))) h
+    before old.service.session mid.service.session new x xs step.session (subst P (sym is) (Stays (ap (λ s. s.session) step.service) (adds_none command (writing.Texts texts) x.reply.status x.payload paths))) h
+one_answered known told document (Some (writing.Inferred path)) old mid new x xs command is paths step h =
+    let P : Option Command → Type 0 = λ c. Does old.service.session (told_added c x.reply.status x.payload) mid.service.session in
+    before old.service.session mid.service.session new x xs step.session (subst P (sym is) (Stays (ap (λ s. s.session) step.service) (adds_none command (writing.Inferred path) x.reply.status x.payload paths))) h
 one_answered known told document None old mid new x xs command is paths step h =
     let P : Option Command → Type 0 = λ c. Does step.begun.session (told_added c x.reply.status x.payload) mid.service.session in
     begun_before (told && is_run command) old.service step.begun new (x ∷ xs) step.slices
@@ -202,7 +208,7 @@ one_answered known told document None old mid new x xs command is paths step h =
 
 one_more : (known told : Bool) (document : Bor (List ℕ)) (old mid : Filed) (new : Opened) (x : Exchange) (xs : List Exchange) (command : Option Command) → x.command ≡ command
     → IsAnswered (filing_service known told document) old command x.payload x.reply mid → AreCallsOf mid.service.session xs new → AreCallsOf old.service.session (x ∷ xs) new
-one_more known told document old mid new x xs (Some command) is (inl (room, answered)) h = one_answered known told document (text_paths command) old mid new x xs command is refl answered h
+one_more known told document old mid new x xs (Some command) is (inl (room, answered)) h = one_answered known told document (writing_of command) old mid new x xs command is refl answered h
 one_more known told document old mid new x xs (Some command) is (inr (more, tells, same)) h =
     unasked old.service.session mid.service.session new x xs (ap (λ (s : Filed). s.service.session) same) (passed_adds_none _ x.command x.payload x.reply tells) h
 one_more known told document old mid new x xs None is (tells, same) h =

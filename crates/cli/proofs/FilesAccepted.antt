@@ -11,7 +11,7 @@ use Rattle.clap.specs.Words.{Row, Text, takes}
 use Rattle.command_line.proofs.Numbers.{one_number}
 use Rattle.command_line.specs.CommandLine.{AreLimits, ArePaths, IsCommand, IsFormat, IsLimitOfFacts, IsQuestion, IsTaskOf, IsFlag, IsTelling, IsVersion, Refuses, draws_facts, elc_app, format_number, tells_progress, version_number}
 use Rattle.command_line.specs.declared.tasks.Command.{Command}
-use Rattle.command_line.specs.declared.tasks.Command.TheVariants.{Ask, Check, Classify, Convert, Query, Restrict, Session}
+use Rattle.command_line.specs.declared.tasks.Command.TheVariants.{Ask, Check, Classify, Convert, Infer, Query, Restrict, Session}
 use Rattle.command_line.specs.declared.tasks.FormatNumber.{FormatNumber}
 use Rattle.command_line.specs.declared.tasks.FormatNumber.TheVariants as numbers
 use Rattle.command_line.specs.declared.tasks.LineFault.{LineFault}
@@ -141,32 +141,36 @@ same_format numbers.Two numbers.One e = let bad : 2 ≡ 1 = e in absurd (cc)
 one_format : (rows : List Row) (v w : FormatNumber) → IsFormat rows v → IsFormat rows w → v ≡ w
 one_format rows v w h k = same_format v w (one_number _ _ _ _ h k)
 
--- whether the name is one of these three
-abbrev is_one_of_three : Text → Bool
-is_one_of_three name = bytes_eq name (codes "classify") || bytes_eq name (codes "check") || bytes_eq name (codes "restrict")
+-- whether the name is one of these four
+abbrev is_one_of_four : Text → Bool
+is_one_of_four name = bytes_eq name (codes "classify") || bytes_eq name (codes "check") || bytes_eq name (codes "restrict") || bytes_eq name (codes "infer")
 
 abbrev is_restriction : Text → Bool
 is_restriction name = bytes_eq name (codes "restrict")
 
+abbrev is_inference : Text → Bool
+is_inference name = bytes_eq name (codes "infer")
+
 -- that of a question is none of them
-asks : (name : Text) (rows : List Row) (question : Question) → IsQuestion name rows question → is_one_of_three name ≡ false
-asks name rows (Names Superclasses class) is = ap is_one_of_three is.0
-asks name rows (Names Subclasses class) is = ap is_one_of_three is.0
-asks name rows (Names Equivalents class) is = ap is_one_of_three is.0
-asks name rows (Names Instances class) is = ap is_one_of_three is.0
-asks name rows (Groups Above class) is = ap is_one_of_three is.0
-asks name rows (Groups Below class) is = ap is_one_of_three is.0
-asks name rows (Why asked class shown) is = ap is_one_of_three is.0
+asks : (name : Text) (rows : List Row) (question : Question) → IsQuestion name rows question → is_one_of_four name ≡ false
+asks name rows (Names Superclasses class) is = ap is_one_of_four is.0
+asks name rows (Names Subclasses class) is = ap is_one_of_four is.0
+asks name rows (Names Equivalents class) is = ap is_one_of_four is.0
+asks name rows (Names Instances class) is = ap is_one_of_four is.0
+asks name rows (Groups Above class) is = ap is_one_of_four is.0
+asks name rows (Groups Below class) is = ap is_one_of_four is.0
+asks name rows (Why asked class shown) is = ap is_one_of_four is.0
 
 -- a command of the name `classify` is a classification
 is_classify : (name : Text) (rows : List Row) (command : Command) → name ≡ codes "classify" → IsCommand name rows command → (paths : Paths) × (number : FormatNumber) × (command ≡ Classify paths number)
 is_classify name rows (Classify paths number) is is' = (paths, number, refl)
 is_classify name rows (Check paths) is is' = let bad : codes "classify" ≡ codes "check" = sym is ∙ is'.0 in absurd (cc)
-is_classify name rows (Convert conversion) is is' = let bad : true ≡ false = sym (ap is_one_of_three is) ∙ ap is_one_of_three is'.0 in absurd (cc)
+is_classify name rows (Convert conversion) is is' = let bad : true ≡ false = sym (ap is_one_of_four is) ∙ ap is_one_of_four is'.0 in absurd (cc)
 is_classify name rows (Restrict document output) is is' = let bad : false ≡ true = sym (ap is_restriction is) ∙ ap is_restriction is'.0 in absurd (cc)
-is_classify name rows (Ask document question) is is' = let bad : true ≡ false = sym (ap is_one_of_three is) ∙ asks name rows question is'.1 in absurd (cc)
-is_classify name rows (Query document expression) is is' = let bad : true ≡ false = sym (ap is_one_of_three is) ∙ ap is_one_of_three is'.0 in absurd (cc)
-is_classify name rows (Session document) is is' = let bad : true ≡ false = sym (ap is_one_of_three is) ∙ ap is_one_of_three is'.0 in absurd (cc)
+is_classify name rows (Infer document output) is is' = let bad : false ≡ true = sym (ap is_inference is) ∙ ap is_inference is'.0 in absurd (cc)
+is_classify name rows (Ask document question) is is' = let bad : true ≡ false = sym (ap is_one_of_four is) ∙ asks name rows question is'.1 in absurd (cc)
+is_classify name rows (Query document expression) is is' = let bad : true ≡ false = sym (ap is_one_of_four is) ∙ ap is_one_of_four is'.0 in absurd (cc)
+is_classify name rows (Session document) is is' = let bad : true ≡ false = sym (ap is_one_of_four is) ∙ ap is_one_of_four is'.0 in absurd (cc)
 
 -- what a run of a command says that the words of `classify` ask for
 classify_run : (told : Bool) (name : Text) (rows : List Row) (paths : Paths) (number : FormatNumber) (command : Command) (limits : Limits) (s : Store) (content content' : Content) (old new : Output) (status : ℕ) → IsCommand name rows (Classify paths number) → IsCommand name rows command → IsCommandRun told command limits s content content' old new status → (paths' : Paths) × (format : Format) × AreSamePaths paths paths' × IsClassifyRun paths' format limits s content content' old new status × (format ≡ format_of number)
@@ -181,11 +185,12 @@ classify_run told name rows paths number command limits s content content' old n
 is_check : (name : Text) (rows : List Row) (command : Command) → name ≡ codes "check" → IsCommand name rows command → (paths : Paths) × (command ≡ Check paths)
 is_check name rows (Check paths) is is' = (paths, refl)
 is_check name rows (Classify paths number) is is' = let bad : codes "check" ≡ codes "classify" = sym is ∙ is'.0 in absurd (cc)
-is_check name rows (Convert conversion) is is' = let bad : true ≡ false = sym (ap is_one_of_three is) ∙ ap is_one_of_three is'.0 in absurd (cc)
+is_check name rows (Convert conversion) is is' = let bad : true ≡ false = sym (ap is_one_of_four is) ∙ ap is_one_of_four is'.0 in absurd (cc)
 is_check name rows (Restrict document output) is is' = let bad : codes "check" ≡ codes "restrict" = sym is ∙ is'.0 in absurd (cc)
-is_check name rows (Ask document question) is is' = let bad : true ≡ false = sym (ap is_one_of_three is) ∙ asks name rows question is'.1 in absurd (cc)
-is_check name rows (Query document expression) is is' = let bad : true ≡ false = sym (ap is_one_of_three is) ∙ ap is_one_of_three is'.0 in absurd (cc)
-is_check name rows (Session document) is is' = let bad : true ≡ false = sym (ap is_one_of_three is) ∙ ap is_one_of_three is'.0 in absurd (cc)
+is_check name rows (Infer document output) is is' = let bad : false ≡ true = sym (ap is_inference is) ∙ ap is_inference is'.0 in absurd (cc)
+is_check name rows (Ask document question) is is' = let bad : true ≡ false = sym (ap is_one_of_four is) ∙ asks name rows question is'.1 in absurd (cc)
+is_check name rows (Query document expression) is is' = let bad : true ≡ false = sym (ap is_one_of_four is) ∙ ap is_one_of_four is'.0 in absurd (cc)
+is_check name rows (Session document) is is' = let bad : true ≡ false = sym (ap is_one_of_four is) ∙ ap is_one_of_four is'.0 in absurd (cc)
 
 -- what a run of a command says that the words of `check` ask for
 check_run : (told : Bool) (name : Text) (rows : List Row) (paths : Paths) (command : Command) (limits : Limits) (s : Store) (content content' : Content) (old new : Output) (status : ℕ) → IsCommand name rows (Check paths) → IsCommand name rows command → IsCommandRun told command limits s content content' old new status → (paths' : Paths) × AreSamePaths paths paths' × IsCheckRun paths' limits.version limits.max_bytes s content old new status × (tells_progress command ≡ true)
@@ -201,10 +206,22 @@ pub is_restrict : (name : Text) (rows : List Row) (command : Command) → name �
 is_restrict name rows (Restrict document output) is is' = (document, output, refl)
 is_restrict name rows (Classify paths number) is is' = let bad : true ≡ false = sym (ap is_restriction is) ∙ ap is_restriction is'.0 in absurd (cc)
 is_restrict name rows (Check paths) is is' = let bad : codes "restrict" ≡ codes "check" = sym is ∙ is'.0 in absurd (cc)
-is_restrict name rows (Convert conversion) is is' = let bad : true ≡ false = sym (ap is_one_of_three is) ∙ ap is_one_of_three is'.0 in absurd (cc)
-is_restrict name rows (Ask document question) is is' = let bad : true ≡ false = sym (ap is_one_of_three is) ∙ asks name rows question is'.1 in absurd (cc)
-is_restrict name rows (Query document expression) is is' = let bad : true ≡ false = sym (ap is_one_of_three is) ∙ ap is_one_of_three is'.0 in absurd (cc)
-is_restrict name rows (Session document) is is' = let bad : true ≡ false = sym (ap is_one_of_three is) ∙ ap is_one_of_three is'.0 in absurd (cc)
+is_restrict name rows (Convert conversion) is is' = let bad : true ≡ false = sym (ap is_one_of_four is) ∙ ap is_one_of_four is'.0 in absurd (cc)
+is_restrict name rows (Infer document output) is is' = let bad : true ≡ false = sym (ap is_restriction is) ∙ ap is_restriction is'.0 in absurd (cc)
+is_restrict name rows (Ask document question) is is' = let bad : true ≡ false = sym (ap is_one_of_four is) ∙ asks name rows question is'.1 in absurd (cc)
+is_restrict name rows (Query document expression) is is' = let bad : true ≡ false = sym (ap is_one_of_four is) ∙ ap is_one_of_four is'.0 in absurd (cc)
+is_restrict name rows (Session document) is is' = let bad : true ≡ false = sym (ap is_one_of_four is) ∙ ap is_one_of_four is'.0 in absurd (cc)
+
+-- a command of the name `infer` is an inference
+pub is_infer : (name : Text) (rows : List Row) (command : Command) → name ≡ codes "infer" → IsCommand name rows command → (document : Bor (List ℕ)) × (output : Bor (List ℕ)) × (command ≡ Infer document output)
+is_infer name rows (Infer document output) is is' = (document, output, refl)
+is_infer name rows (Classify paths number) is is' = let bad : true ≡ false = sym (ap is_inference is) ∙ ap is_inference is'.0 in absurd (cc)
+is_infer name rows (Check paths) is is' = let bad : true ≡ false = sym (ap is_inference is) ∙ ap is_inference is'.0 in absurd (cc)
+is_infer name rows (Convert conversion) is is' = let bad : true ≡ false = sym (ap is_inference is) ∙ ap is_inference is'.0 in absurd (cc)
+is_infer name rows (Restrict document output) is is' = let bad : true ≡ false = sym (ap is_inference is) ∙ ap is_inference is'.0 in absurd (cc)
+is_infer name rows (Ask document question) is is' = let bad : true ≡ false = sym (ap is_one_of_four is) ∙ asks name rows question is'.1 in absurd (cc)
+is_infer name rows (Query document expression) is is' = let bad : true ≡ false = sym (ap is_inference is) ∙ ap is_inference is'.0 in absurd (cc)
+is_infer name rows (Session document) is is' = let bad : true ≡ false = sym (ap is_inference is) ∙ ap is_inference is'.0 in absurd (cc)
 
 same_version : (v w : Version) → version_number v ≡ version_number w → v ≡ w
 same_version One One e = refl

@@ -10,12 +10,15 @@ pub mod Stored
 pub mod SomeTexts
 pub mod Left
 pub mod Filed
+pub mod FiledInference
 pub mod Converted
 pub mod Restricted
+pub mod Inferences
 pub mod WrittenAccepted
 pub mod FilesAccepted
 pub mod EveryDocument
 pub mod AcceptedRight
 pub mod FilesRight
 pub mod RestrictedRuns
+pub mod InferredRuns
 pub mod SpokenSessions

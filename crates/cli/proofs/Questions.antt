@@ -16,7 +16,7 @@ use Rattle.session.specs.declared.question_fault.QuestionFault.TheVariants.{Docu
 use Rattle.session.specs.declared.query_fault.QueryFault.{QueryFault}
 use Rattle.session.specs.declared.query_fault.QueryFault.TheVariants as querying
 
-read_as_file : (version : Version) (file left : Option (List ℕ)) (most : ℕ) (o : Ontology) → Keeps file left → IsReadAs version most left o → IsReadAs version most file o
+pub read_as_file : (version : Version) (file left : Option (List ℕ)) (most : ℕ) (o : Ontology) → Keeps file left → IsReadAs version most left o → IsReadAs version most file o
 read_as_file version file left most o kept is = record { reads = reads_file version file left most o kept is.reads; taken = is.taken }
 
 answer_of_file : (file left : Option (List ℕ)) (limits : Limits) (question : Question) (text : List ℕ) → Keeps file left → AnswersQuestion limits left question text → AnswersQuestion limits file question text

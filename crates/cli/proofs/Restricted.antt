@@ -10,7 +10,8 @@ use Rattle.cli.proofs.Stored.{IsLeftBy, IsSome, sink_begins, sink_holds, sink_st
 use Rattle.cli.specs.Checks.{AreKnown}
 use Rattle.cli.specs.Files.{IsSourceOf, RestrictsFile, Store}
 use Rattle.cli.specs.Restrictions.{HasBytes, IsRestrictedAs, IsRestrictionAnswer, IsRestrictionRead, IsUnrestricted}
-use Rattle.cli.specs.Runs.{AreOtherFilesKept, IsRestrictAnswer, IsRestrictionMade}
+use Rattle.cli.specs.HeldTexts.{AreOtherFilesKept}
+use Rattle.cli.specs.Runs.{IsRestrictAnswer, IsRestrictionMade}
 use Rattle.cli.specs.declared.fault.RestrictionFault.{RestrictionFault}
 use Rattle.cli.specs.declared.fault.RestrictionFault.TheVariants.{Document, Unwritten}
 use Rattle.device.specs.Device.{IsLongerThan}

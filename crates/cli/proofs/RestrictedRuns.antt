@@ -48,7 +48,7 @@ held_bytes true None bytes is_known there are = absurd (cc)
 held_bytes true (Some xs) bytes is_known there are = ap Some are
 
 -- a text that is printed with status 0 goes out
-printed_done : (old new : Device) (text : List ℕ) → IsPrinted old new text statuses.Done (code_of statuses.Done) → Takes old new text
+pub printed_done : (old new : Device) (text : List ℕ) → IsPrinted old new text statuses.Done (code_of statuses.Done) → Takes old new text
 printed_done old new text (inl whole) = whole.0
 printed_done old new text (inr failed) = let e = failed.1 in absurd (cc)
 

@@ -12,6 +12,8 @@ use Rattle.cli.specs.declared.fault.ClassifyFault.{ClassifyFault}
 use Rattle.cli.specs.declared.fault.ClassifyFault.TheVariants as classifying
 use Rattle.cli.specs.declared.fault.ConversionFault.{ConversionFault}
 use Rattle.cli.specs.declared.fault.ConversionFault.TheVariants.{Certificate, Document, Unread}
+use Rattle.cli.specs.declared.fault.InferenceFault.{InferenceFault}
+use Rattle.cli.specs.declared.fault.InferenceFault.TheVariants as inferring
 use Rattle.cli.specs.declared.fault.RestrictionFault.{RestrictionFault}
 use Rattle.cli.specs.declared.fault.RestrictionFault.TheVariants as restricting
 use Rattle.device.specs.Device.{HasFailed}
@@ -19,6 +21,7 @@ use Rattle.profile.specs.declared.fault.DocumentFault.{DocumentFault}
 use Rattle.profile.specs.declared.fault.DocumentFault.TheVariants.{Io, Memory}
 use Rattle.session.specs.declared.question_fault.QuestionFault.{QuestionFault}
 use Rattle.session.specs.declared.question_fault.QuestionFault.TheVariants as asking
+use Rattle.session.specs.declared.run_fault.RunFault.TheVariants as running
 use Rattle.source_lines.specs.Sources.{SourceState}
 use Rattle.system_files.specs.Contents.{Content, GivesAll, IsMissing, IsStuck, IsThere}
 use Rattle.system_files.specs.declared.files.Files.{Ghosts}
@@ -121,3 +124,11 @@ abbrev pub RestrictsFile : {X : Type 0} → Store → Option (List ℕ) → Resu
 RestrictsFile s held (Ok x) = IsThere s.is_known held × NoWriteFails s
 RestrictsFile s held (Err (restricting.Document fault)) = BlamesFile s.reads_fail s.is_known held fault × NoWriteFails s
 RestrictsFile s held (Err restricting.Unwritten) = IsThere s.is_known held × SomeWriteFails s
+
+-- what an answer of an inference says of the document's file, and of the writes that failed
+abbrev pub InfersFile : {X : Type 0} → Store → Option (List ℕ) → Result X InferenceFault → Type 0
+InfersFile s held (Ok x) = IsThere s.is_known held × NoWriteFails s
+InfersFile s held (Err (inferring.Run (running.Document fault))) = BlamesFile s.reads_fail s.is_known held fault × NoWriteFails s
+InfersFile s held (Err (inferring.Run running.Limit)) = IsThere s.is_known held × NoWriteFails s
+InfersFile s held (Err (inferring.Run running.Memory)) = IsThere s.is_known held × NoWriteFails s
+InfersFile s held (Err inferring.Unwritten) = IsThere s.is_known held × SomeWriteFails s

@@ -4,7 +4,7 @@ use Rattle.std.specs.Borrow.{Bor}
 use Rattle.certificate.specs.declared.format.Format.{Format}
 use Rattle.certificate.specs.declared.format.Format.TheVariants.{Two}
 use Rattle.classification.specs.declared.classification.Summary.{Summary}
-use Rattle.cli.specs.HeldTexts.{AreApart, AreOthersKept, HoldTexts, HoldTextsUntil, Stays}
+use Rattle.cli.specs.HeldTexts.{AreApart, AreOtherFilesKept, AreOthersKept, HoldTexts, HoldTextsUntil, Holds, HoldsPrefix, Stays}
 use Rattle.cli.specs.Messages.{cannot_write, summary_text, written_path}
 use Rattle.cli.specs.declared.filing.FileService.{FileService}
 use Rattle.command_line.specs.declared.tasks.Paths.{Paths}
@@ -18,19 +18,22 @@ use Rattle.program.specs.declared.version.Version.{Version}
 use Rattle.session.specs.Answers.{IsMade}
 use Rattle.session.specs.Devices.{seen}
 use Rattle.session.specs.Edits.{Reply, IsCall, IsOneDocument, IsSessionOver, Resume}
+use Rattle.session.specs.Inferences.{IsInferred}
 use Rattle.session.specs.Progress.{IsProgress}
 use Rattle.session.specs.Sessions.{IsSession, Opened}
 use Rattle.session.specs.WrittenTexts.{Texts}
 use Rattle.session.specs.declared.fault.WritingFault.{WritingFault}
 use Rattle.session.specs.declared.fault.WritingFault.TheVariants.{Io, Memory, Unfinished}
 use Rattle.speech.specs.Answers.{IsServed, session_service, unfinished}
-use Rattle.speech.specs.Commands.{text_paths}
+use Rattle.speech.specs.Commands.{writing_of}
 use Rattle.speech.specs.Conversations.{AreExchanges, Exchange}
 use Rattle.speech.specs.Editing.{AreCallsOf, texts_added}
 use Rattle.speech.specs.Replies.{Told, out_of_memory, told}
 use Rattle.speech.specs.declared.command.Command.{Command}
 use Rattle.speech.specs.declared.command.Command.TheVariants as asked
 use Rattle.speech.specs.declared.command.TextPaths.{TextPaths}
+use Rattle.speech.specs.declared.command.Writing.{Writing}
+use Rattle.speech.specs.declared.command.Writing.TheVariants as written
 use Rattle.speech.specs.declared.service.Service.{Ghosts}
 use Rattle.speech.specs.declared.session_service.SessionService.{SessionService}
 use Rattle.system_files.specs.Contents.{Content}
@@ -61,18 +64,39 @@ pub record AreTextsFiled (paths : Paths) (format : Format) (known : Bool) (s : O
   pub blames : BlamesTexts failed_before failed_behind answer
   pub others : AreOthersKept paths content content'
 
+-- what an answer says of what a session infers that is written into a file: it holds the text; or why not, and what it holds then
+abbrev pub IsInferredAnswer : (path : List ℕ) → (known : Bool) → Opened → (content content' : Content) → Result Summary WritingFault → Type 0
+IsInferredAnswer path known s content content' (Ok summary) = IsFinished s.saturation × ((text : List ℕ) × IsInferred s.ontology summary text × Holds known (content' path) text)
+IsInferredAnswer path known s content content' (Err Unfinished) = ¬ IsFinished s.saturation × AllStay known content content'
+IsInferredAnswer path known s content content' (Err Memory) = AllStay known content content'
+IsInferredAnswer path known s content content' (Err (Io n)) =
+    IsFinished s.saturation × ((summary : Summary) × (text : List ℕ) × IsInferred s.ontology summary text × HoldsPrefix known (content path) (content' path) text)
+
+-- the answer is that of a session of which what it infers is written into a file, no other file is written, and a write is blamed only where
+-- one failed
+pub record IsInferenceFiled (path : List ℕ) (known : Bool) (s : Opened) (content content' : Content) (failed_before failed_behind : ℕ) (answer : Result Summary WritingFault) : Type 0 where
+  pub answered : IsInferredAnswer path known s content content' answer
+  pub blames : BlamesTexts failed_before failed_behind answer
+  pub others : AreOtherFilesKept path content content'
+
 -- ---- what is told
 
 -- the text with the status; or the status alone, where there was no memory for the text
 abbrev pub IsToldAs : Status → (text : List ℕ) → Told → Type 0
 IsToldAs status text t = (t ≡ told status text) ⊎ (t ≡ told status [])
 
--- the line of the counts, or why the texts are not written; without memory for a reply it is not told that they are not, where they are
-abbrev pub IsTextsTold : Paths → Result Summary WritingFault → Told → Type 0
-IsTextsTold paths (Ok summary) t = IsToldAs statuses.Done (summary_text summary) t
-IsTextsTold paths (Err Unfinished) t = (t ≡ unfinished) ⊎ (t ≡ out_of_memory)
-IsTextsTold paths (Err Memory) t = t ≡ out_of_memory
-IsTextsTold paths (Err (Io n)) t = IsToldAs statuses.File (cannot_write (written_path paths n)) t
+-- the line of the counts, or why nothing or not all is written, and then at which path not; without memory for a reply it is not told that
+-- something is not written that is
+abbrev pub IsFiledTold : (path : List ℕ) → Result Summary WritingFault → Told → Type 0
+IsFiledTold path (Ok summary) t = IsToldAs statuses.Done (summary_text summary) t
+IsFiledTold path (Err Unfinished) t = (t ≡ unfinished) ⊎ (t ≡ out_of_memory)
+IsFiledTold path (Err Memory) t = t ≡ out_of_memory
+IsFiledTold path (Err (Io n)) t = IsToldAs statuses.File (cannot_write path) t
+
+-- the path of the text that was not written, if that is the answer
+abbrev pub blamed_path : Paths → Result Summary WritingFault → List ℕ
+blamed_path paths (Err (Io n)) = written_path paths n
+blamed_path paths answer = []
 
 -- ---- commands
 
@@ -90,7 +114,15 @@ paths_of document texts = record { document = document; taxonomy = texts.taxonom
 pub record IsFiling (known : Bool) (paths : Paths) (old : Filed) (t : Told) (new : Filed) : Type 0 where
   pub answer : Result Summary WritingFault
   pub filed : AreTextsFiled paths Two known old.service.session old.content new.content old.failed_writes new.failed_writes answer
-  pub told : IsTextsTold paths answer t
+  pub told : IsFiledTold (blamed_path paths answer) answer t
+  pub service : new.service ≡ old.service
+  pub session : IsSession new.service.session
+
+-- what is inferred is written into the file at the path, which is told; the session stays as it is
+pub record IsInferring (known : Bool) (path : List ℕ) (old : Filed) (t : Told) (new : Filed) : Type 0 where
+  pub answer : Result Summary WritingFault
+  pub filed : IsInferenceFiled path known old.service.session old.content new.content old.failed_writes new.failed_writes answer
+  pub told : IsFiledTold path answer t
   pub service : new.service ≡ old.service
   pub session : IsSession new.service.session
 
@@ -117,15 +149,16 @@ pub record IsServedAlone (told : Bool) (old : Filed) (command : Command) (payloa
   pub content : new.content ≡ old.content
   pub failed_writes : new.failed_writes ≡ old.failed_writes
 
--- what a command does that asks to write files at these paths, if it does
-abbrev pub IsFiledBy : (known told : Bool) → (document : Bor (List ℕ)) → Option TextPaths → (old : Filed) → Command → (payload : List ℕ) → Told → (new : Filed) → Type 0
-IsFiledBy known told document (Some texts) old command payload t new = IsFiling known (paths_of document texts) old t new
+-- what a command does that asks to write this, if it asks for that
+abbrev pub IsFiledBy : (known told : Bool) → (document : Bor (List ℕ)) → Option Writing → (old : Filed) → Command → (payload : List ℕ) → Told → (new : Filed) → Type 0
+IsFiledBy known told document (Some (written.Texts texts)) old command payload t new = IsFiling known (paths_of document texts) old t new
+IsFiledBy known told document (Some (written.Inferred path)) old command payload t new = IsInferring known path.now old t new
 IsFiledBy known told document None old command payload t new = IsServedAlone told old command payload t new
 
 -- what a session over files says as what answers commands, where progress is told or not
 abbrev pub filing_service : (known told : Bool) → (document : Bor (List ℕ)) → Ghosts Filed
 filing_service known told document = record {
-  steps = λ old command payload t new. IsFiledBy known told document (text_paths command) old command payload t new;
+  steps = λ old command payload t new. IsFiledBy known told document (writing_of command) old command payload t new;
   room = λ s. session_service.room s.service;
 }
 
@@ -137,7 +170,7 @@ filed F s = record { service = s.service.now; content = F.content s.files.now; f
 
 -- what a command does, to the same files, and what is told of it on the way, to the same sink
 pub record IsFiledIn {F In Out E : Type 0} (G : files.Ghosts F In Out) (S : sinks.Ghosts E) (old : FileService F E In Out) (command : Command) (payload : List ℕ) (t : Told) (new : FileService F E In Out) : Type 0 where
-  pub step : IsFiledBy (G.is_known old.files.now) old.told old.document (text_paths command) (filed G old) command payload t (filed G new)
+  pub step : IsFiledBy (G.is_known old.files.now) old.told old.document (writing_of command) (filed G old) command payload t (filed G new)
   pub document : new.document ≡ old.document
   pub told : new.told ≡ old.told
   pub known : G.is_known new.files.now ≡ G.is_known old.files.now

@@ -49,3 +49,7 @@ HoldTextsUntil n known paths texts old new = ⊥
 abbrev pub AreOthersKept : Paths → (content content' : Content) → Type 0
 AreOthersKept paths content content' =
     (path : List ℕ) → ¬ (path ≡ paths.taxonomy.now) → ¬ (path ≡ paths.instances.now) → ¬ (path ≡ paths.certificate.now) → content' path ≡ content path
+
+-- files at other paths are as they were
+abbrev pub AreOtherFilesKept : (path : List ℕ) → (content content' : Content) → Type 0
+AreOtherFilesKept path content content' = (other : List ℕ) → ¬ (other ≡ path) → content' other ≡ content other

@@ -3,6 +3,7 @@ pub mod Classifications
 pub mod Checks
 pub mod Conversions
 pub mod Restrictions
+pub mod Inferring
 pub mod FileSinks
 pub mod Files
 pub mod HeldTexts

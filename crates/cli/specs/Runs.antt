@@ -6,7 +6,7 @@ use Rattle.classification.specs.declared.classification.Summary.{Summary}
 use Rattle.clap.specs.Words.{Text}
 use Rattle.command_line.specs.CommandLine.{IsTaskOf, Refuses}
 use Rattle.command_line.specs.declared.tasks.Command.{Command}
-use Rattle.command_line.specs.declared.tasks.Command.TheVariants.{Ask, Check, Classify, Convert, Query, Restrict, Session}
+use Rattle.command_line.specs.declared.tasks.Command.TheVariants.{Ask, Check, Classify, Convert, Infer, Query, Restrict, Session}
 use Rattle.command_line.specs.declared.tasks.Conversion.{Conversion}
 use Rattle.command_line.specs.declared.tasks.FormatNumber.{FormatNumber}
 use Rattle.command_line.specs.declared.tasks.FormatNumber.TheVariants as numbers
@@ -17,6 +17,7 @@ use Rattle.certificate_text.specs.declared.conversion.ConvertFault.{ConvertFault
 use Rattle.certificate_text.specs.declared.conversion.ConvertFault.TheVariants as converting
 use Rattle.cli.specs.Checks.{IsCheckAnswer}
 use Rattle.cli.specs.Conversions.{IsConversionAnswer}
+use Rattle.cli.specs.Inferring.{IsInferenceAnswer}
 use Rattle.cli.specs.Restrictions.{IsRestrictionAnswer}
 use Rattle.cli.specs.declared.fault.ConversionFault.{ConversionFault}
 use Rattle.cli.specs.declared.fault.ConversionFault.TheVariants.{Certificate, Document, Unread}
@@ -26,11 +27,11 @@ use Rattle.std.specs.Fmt.{decimal}
 use Rattle.std.specs.Global.{Vec}
 use Rattle.answers.specs.Questions.{names_in}
 use Rattle.program.specs.declared.question.Question.{Question}
-use Rattle.cli.specs.Files.{AsksFile, ChecksFiles, ClassifiesFile, ConvertsFiles, RestrictsFile, Store, store}
+use Rattle.cli.specs.Files.{AsksFile, ChecksFiles, ClassifiesFile, ConvertsFiles, InfersFile, RestrictsFile, Store, store}
 use Rattle.cli.specs.Messages.{BehindProgress, Output, IsAnswered, IsPrinted, IsTold, cannot_write, out_of_memory, rejected_text, unconverted_text, verdict_text, verdict_status, outputs, summary_text, IsCheckText, check_status, IsClassifyText, classify_status, IsLineTold}
 use Rattle.speech.specs.Messages.{IsDocumentText, IsQuestionText, cannot_read, question_status}
 use Rattle.cli.specs.Classifications.{IsFaultOf}
-use Rattle.cli.specs.HeldTexts.{AreApart, AreOthersKept, HoldTexts, HoldTextsUntil, Holds, HoldsPrefix, Stays}
+use Rattle.cli.specs.HeldTexts.{AreApart, AreOtherFilesKept, AreOthersKept, HoldTexts, HoldTextsUntil, Holds, HoldsPrefix, Stays}
 use Rattle.session.specs.Classifications.{IsClassified}
 use Rattle.session.specs.WrittenTexts.{Texts}
 use Rattle.cli.specs.Speaking.{IsSessionRun}
@@ -38,12 +39,15 @@ use Rattle.cli.specs.declared.checking.Checked.{Checked}
 use Rattle.cli.specs.declared.fault.CheckFault.{CheckFault}
 use Rattle.cli.specs.declared.fault.ClassifyFault.{ClassifyFault}
 use Rattle.cli.specs.declared.fault.ClassifyFault.TheVariants.{Io}
+use Rattle.cli.specs.declared.fault.InferenceFault.{InferenceFault}
+use Rattle.cli.specs.declared.fault.InferenceFault.TheVariants as inferring
 use Rattle.cli.specs.declared.fault.RestrictionFault.{RestrictionFault}
 use Rattle.cli.specs.declared.fault.RestrictionFault.TheVariants as restricting
 use Rattle.device.specs.declared.device.Sink as sinks
 use Rattle.program.specs.declared.limits.Limits.{Limits}
 use Rattle.program.specs.declared.status.Status.TheVariants as statuses
 use Rattle.program.specs.declared.version.Version.{Version}
+use Rattle.session.specs.Run.{question_fault}
 use Rattle.session.specs.TextAnswers as asking
 use Rattle.session.specs.TextAnswers.{AnswersQuery, AnswersQuestion}
 use Rattle.session.specs.declared.question_fault.QuestionFault.{QuestionFault}
@@ -109,10 +113,6 @@ pub record IsCheckRun (paths : Paths) (version : Version) (bytes : ℕ) (s : Sto
   pub blames : ChecksFiles s.reads_fail s.is_known content paths answer
   pub told : IsCheckTold paths bytes answer old new status
 
--- files at other paths are as they were
-abbrev pub AreOtherFilesKept : (path : List ℕ) → (content content' : Content) → Type 0
-AreOtherFilesKept path content content' = (other : List ℕ) → ¬ (other ≡ path) → content' other ≡ content other
-
 -- what an answer says of the document, of the certificate's text, and of the file that is written
 abbrev pub IsConvertAnswer : {X : Type 0} → Conversion → Limits → (known : Bool) → (content content' : Content) → Result X ConversionFault → Type 0
 IsConvertAnswer c limits known content content' answer =
@@ -169,6 +169,31 @@ pub record IsRestrictRun (document output : List ℕ) (limits : Limits) (s : Sto
   pub made : IsRestrictionMade document output limits s content content' answer
   pub told : IsRestrictTold document output limits.max_bytes answer old new status
 
+-- what an answer says of the document, and of the file that is written
+abbrev pub IsInferAnswer : (document output : List ℕ) → Limits → (known : Bool) → (content content' : Content) → Result Summary InferenceFault → Type 0
+IsInferAnswer document output limits known content content' answer =
+    IsInferenceAnswer limits (content document) (Holds known (content' output)) (HoldsPrefix known (content output) (content' output))
+    (Stays known (content output) (content' output)) answer
+
+-- the answer is that of an inference in files, no other file is written, and a device is blamed only where it failed
+pub record IsInferMade (document output : List ℕ) (limits : Limits) (s : Store) (content content' : Content) (answer : Result Summary InferenceFault) : Type 0 where
+  pub answered : IsInferAnswer document output limits s.is_known content content' answer
+  pub blames : InfersFile s (content document) answer
+  pub others : AreOtherFilesKept output content content'
+
+-- the counts are printed; or a fault is told, as of a question about the document
+abbrev pub IsInferTold : (document output : List ℕ) → Limits → Result Summary InferenceFault → (old new : Output) → (status : ℕ) → Type 0
+IsInferTold document output limits (Ok summary) old new status = IsAnswered old new (summary_text summary) statuses.Done status
+IsInferTold document output limits (Err (inferring.Run fault)) old new status =
+    (new.out ≡ old.out) × IsTold old.err new.err (IsQuestionText document limits.max_bytes limits.max_facts (question_fault fault)) (question_status (question_fault fault)) status
+IsInferTold document output limits (Err inferring.Unwritten) old new status = (new.out ≡ old.out) × IsTold old.err new.err (λ text. text ≡ cannot_write output) statuses.File status
+
+-- a run of `infer`
+pub record IsInferRun (document output : List ℕ) (limits : Limits) (s : Store) (content content' : Content) (old new : Output) (status : ℕ) : Type 0 where
+  pub answer : Result Summary InferenceFault
+  pub made : IsInferMade document output limits s content content' answer
+  pub told : IsInferTold document output limits answer old new status
+
 -- what an answer says of a question about a document: the text has this property; or why there is none
 abbrev pub IsQuestionAnswer : (List ℕ → Type 0) → (QuestionFault → Type 0) → Result (Vec ℕ) QuestionFault → Type 0
 IsQuestionAnswer Answers IsFault (Ok text) = Answers text.items
@@ -200,6 +225,7 @@ IsCommandRun told (Classify paths number) limits s content content' old new stat
 IsCommandRun told (Check paths) limits s content content' old new status = IsCheckRun paths limits.version limits.max_bytes s content old new status
 IsCommandRun told (Convert conversion) limits s content content' old new status = IsConvertRun conversion limits s content content' old new status
 IsCommandRun told (Restrict document output) limits s content content' old new status = IsRestrictRun document.now output.now limits s content content' old new status
+IsCommandRun told (Infer document output) limits s content content' old new status = IsInferRun document.now output.now limits s content content' old new status
 IsCommandRun told (Ask document question) limits s content content' old new status = IsAskRun document.now question limits s content old new status
 IsCommandRun told (Query document expression) limits s content content' old new status = IsQueryRun document.now expression.now limits s content old new status
 IsCommandRun told (Session document) limits s content content' old new status = IsSessionRun told document limits s content content' old new status
@@ -210,11 +236,12 @@ IsPerformed words s content content' old new status =
     ((task : Task) × IsTaskOf words task × BehindProgress task.progress old (λ begun. IsCommandRun task.progress task.command task.limits s content content' begun new status))
     ⊎ ((fault : LineFault) × Refuses words fault × (new.out ≡ old.out) × IsLineTold fault old.err new.err status)
 
--- a classification, a conversion, a restriction and a session write files
+-- a classification, a conversion, a restriction, an inference and a session write files
 abbrev pub writes_files : Command → Bool
 writes_files (Classify paths number) = true
 writes_files (Convert conversion) = true
 writes_files (Restrict document output) = true
+writes_files (Infer document output) = true
 writes_files (Session document) = true
 writes_files command = false
 

@@ -10,12 +10,13 @@ use Rattle.classification.specs.declared.classification.Summary.{Summary}
 use Rattle.command_line.specs.declared.tasks.Paths.{Paths}
 use Rattle.cli.specs.Checks.{IsCheckAnswer}
 use Rattle.cli.specs.Files.{Store}
-use Rattle.cli.specs.HeldTexts.{AreApart}
-use Rattle.cli.specs.Runs.{AreOtherFilesKept, IsCheckRun, IsClassifyRun, IsRestrictRun}
-use Rattle.cli.specs.Messages.{Output, IsAnswered, IsCheckText, IsTold, check_status}
+use Rattle.cli.specs.HeldTexts.{AreApart, AreOtherFilesKept}
+use Rattle.cli.specs.Runs.{IsCheckRun, IsClassifyRun, IsInferRun, IsRestrictRun}
+use Rattle.cli.specs.Messages.{Output, IsAnswered, IsCheckText, IsTold, check_status, summary_text}
 use Rattle.cli.specs.Classifications.{IsClassification}
 use Rattle.session.specs.Classifications.{IsClassified}
 use Rattle.session.specs.Devices.{Device, Takes}
+use Rattle.session.specs.Inferences.{IsInferred}
 use Rattle.session.specs.WrittenTexts.{Texts, AreWritten, Sinks}
 use Rattle.shapes.specs.Faults.{document_faults}
 use Rattle.statements_text.specs.Restrictions.{faulty, kept_statements, report_text}
@@ -177,3 +178,29 @@ WhatIsRestricted =
     (document output : List ℕ) (limits : Limits) (s : Store) (content content' : Content) (old new : Output) →
     s.is_known ≡ true → IsRestrictRun document output limits s content content' old new (code_of statuses.Done) →
     IsRestrictedInto limits.version limits.max_bytes (content document) (content' output) old.out new.out × AreOtherFilesKept output content content'
+
+-- ---- what is inferred
+
+-- the one file held a document, of at most so many bytes, that reads in the version as an ontology whose closure has at most so many facts;
+-- the other holds the text of what is inferred of it, which reads in each version as an ontology with its names whose axioms say the same;
+-- and the line of its counts went out
+pub record IsInferredInto (version : Version) (most facts : ℕ) (held held' : Option (List ℕ)) (old new : Device) : Type 0 where
+  pub bytes : List ℕ
+  pub held_is : held ≡ Some bytes
+  pub within : length bytes ≤ most
+  pub ontology : Ontology
+  pub reads : ReadsAs version bytes ontology
+  pub summary : Summary
+  pub few : summary.facts ≤ facts
+  pub text : List ℕ
+  pub text_is : held' ≡ Some text
+  pub inferred_is : IsInferred ontology summary text
+  pub told : Takes old new (summary_text summary)
+
+-- after a run of `infer` with status 0, over files whose content is known, that is what its two files hold and what standard output has
+-- taken, and all other files hold what they did
+abbrev pub InferredAxiomsSayTheSame : Type 0
+InferredAxiomsSayTheSame =
+    (document output : List ℕ) (limits : Limits) (s : Store) (content content' : Content) (old new : Output) →
+    s.is_known ≡ true → IsInferRun document output limits s content content' old new (code_of statuses.Done) →
+    IsInferredInto limits.version limits.max_bytes limits.max_facts (content document) (content' output) old.out new.out × AreOtherFilesKept output content content'

@@ -4,10 +4,10 @@ use Rattle.std.specs.Borrow.{Bor}
 use Rattle.clap.specs.Words.{Text, takes}
 use Rattle.cli.specs.Files.{Store}
 use Rattle.cli.specs.Messages.{BehindProgress, Output, IsLineTold}
-use Rattle.cli.specs.Runs.{IsCheckRun, IsClassifyRun, IsPerformed, IsRestrictRun, format_of}
+use Rattle.cli.specs.Runs.{IsCheckRun, IsClassifyRun, IsInferRun, IsPerformed, IsRestrictRun, format_of}
 use Rattle.cli.specs.Theorems.{AreSamePaths}
 use Rattle.command_line.specs.CommandLine.{IsTaskOf, elc_app}
-use Rattle.command_line.specs.declared.tasks.Command.TheVariants.{Check, Classify, Restrict}
+use Rattle.command_line.specs.declared.tasks.Command.TheVariants.{Check, Classify, Infer, Restrict}
 use Rattle.command_line.specs.declared.tasks.FormatNumber.{FormatNumber}
 use Rattle.command_line.specs.declared.tasks.LineFault.TheVariants as line
 use Rattle.command_line.specs.declared.tasks.Paths.{Paths}
@@ -44,4 +44,12 @@ WordsOfRestrictRestrict =
     (words : List Text) (task : Task) (document output : Bor (List ℕ)) (s : Store) (content content' : Content) (old new : Output) (status : ℕ) →
     IsTaskOf words task → task.command ≡ Restrict document output → takes elc_app words ≡ true → IsPerformed words s content content' old new status →
     BehindProgress task.progress old (λ begun. (limits : Limits) × AreSameLimits limits task.limits × IsRestrictRun document.now output.now limits s content content' begun new status)
+    ⊎ ((new.out ≡ old.out) × IsLineTold line.Memory old.err new.err status)
+
+-- and one whose words ask for what is inferred of the document at the one path, in the file at the other, is a run of `infer` on these
+abbrev pub WordsOfInferInfer : Type 0
+WordsOfInferInfer =
+    (words : List Text) (task : Task) (document output : Bor (List ℕ)) (s : Store) (content content' : Content) (old new : Output) (status : ℕ) →
+    IsTaskOf words task → task.command ≡ Infer document output → takes elc_app words ≡ true → IsPerformed words s content content' old new status →
+    BehindProgress task.progress old (λ begun. (limits : Limits) × AreSameLimits limits task.limits × IsInferRun document.now output.now limits s content content' begun new status)
     ⊎ ((new.out ≡ old.out) × IsLineTold line.Memory old.err new.err status)

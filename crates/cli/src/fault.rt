@@ -1,7 +1,8 @@
-//! Why a document is not classified, checked or restricted, or its certificate not converted.
+//! Why a document is not classified, checked or restricted, nothing inferred of it, or its certificate not converted.
 
 use certificate_text::ConvertFault;
 use profile::DocumentFault;
+use session::RunFault;
 use thiserror::Error;
 
 /// Why a document was not classified.
@@ -43,6 +44,17 @@ pub enum RestrictionFault {
     /// The document was not read, or too many names of it are kept. Nothing is written.
     #[error(transparent)]
     Document(DocumentFault),
+    /// The sink failed. It has taken a prefix of the text.
+    #[error("the text's sink failed")]
+    Unwritten,
+}
+
+/// Why what is inferred of a document was not written.
+#[derive(Debug, Drop, Error)]
+pub enum InferenceFault {
+    /// The document was not read and run to its end. Nothing is written.
+    #[error(transparent)]
+    Run(RunFault),
     /// The sink failed. It has taken a prefix of the text.
     #[error("the text's sink failed")]
     Unwritten,

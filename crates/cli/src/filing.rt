@@ -1,6 +1,6 @@
 //! A session that answers commands, over files into which it writes its texts.
 ghost use Rattle.certificate.specs.declared.format.Format.TheVariants.{Two};
-ghost use Rattle.cli.specs.Filing.{AreTextsFiled, IsFiling, IsServedAlone, IsTextsTold, IsToldAs, filed, filing_service, is_run, paths_of};
+ghost use Rattle.cli.specs.Filing.{AreTextsFiled, IsFiledTold, IsFiling, IsInferenceFiled, IsInferring, IsServedAlone, IsToldAs, blamed_path, filed, filing_service, is_run, paths_of};
 ghost use Rattle.cli.specs.Messages.{cannot_write, summary_text};
 ghost use Rattle.session.specs.Devices.{seen};
 ghost use Rattle.session.specs.Progress.{IsProgress};
@@ -16,11 +16,11 @@ use crate::slicing::run_slices;
 use certificate::Format;
 use classification::Summary;
 use command_line::Paths;
-use device::{BufferSink, Memory, Sink, Source};
+use device::{BufferSink, Memory, Sink, Source, write_all};
 use program::Status;
 use session::{Session, WritingFault, tell_drawn};
 use speech::{
-    Command, Ending, Reply, Service, SessionService, TextPaths, converse, unfinished_reply,
+    Command, Ending, Reply, Service, SessionService, TextPaths, Writing, converse, unfinished_reply,
 };
 use std::alloc::Global;
 use system_files::Files;
@@ -49,6 +49,41 @@ fn file_texts<F: Files>(
     files.close(sinks.instances);
     files.close(sinks.certificate);
     written
+}
+
+/// Writes what the session infers into the file at the path. Where there is no memory for it, or facts are pending, nothing is written.
+fn file_inferred<F: Files>(
+    files: &mut F,
+    session: &Session,
+    path: &str,
+) -> Result<Summary, WritingFault>
+    ensures filed { IsInferenceFiled path.now (F.is_known files.old) session.now (F.content files.old) (F.content files.new)
+        (F.failed_writes files.old) (F.failed_writes files.new) result }
+    ensures known { F.is_known files.new ≡ F.is_known files.old }
+{
+    let inferred = match session.inferred() {
+        Ok(inferred) => inferred,
+        Err(fault) => return Err(fault),
+    };
+    let Ok(mut sink) = files.writer(path) else {
+        return Err(WritingFault::Memory);
+    };
+    let written = write_all(&mut sink, &inferred.text);
+    files.close(sink);
+    match written {
+        Ok(()) => Ok(inferred.summary),
+        Err(_) => Err(WritingFault::Io(1)),
+    }
+}
+
+/// The path of the text that a fault is about, if it is about one.
+fn blamed_path<'p>(paths: &Paths<'p>, answer: &Result<Summary, WritingFault>) -> &'p str
+    ensures { result.now ≡ blamed_path paths.now answer.now }
+{
+    match answer {
+        Err(WritingFault::Io(number)) => written_path(paths, *number),
+        _ => "",
+    }
 }
 
 /// The reply with the counts, or with nothing where there is no memory for them: the texts are written by then.
@@ -84,19 +119,19 @@ fn unwritten_reply(alloc: Global, path: &str) -> Reply
     }
 }
 
-/// The reply that the texts are written into the files at the paths, or why not.
+/// The reply that what was asked for is written, or why not; the path is that of the file that was not written.
 fn filed_reply(
     alloc: Global,
     answer: Result<Summary, WritingFault>,
-    paths: &Paths<'_>,
+    path: &str,
 ) -> Result<Reply, Memory>
-    ensures { IsTextsTold paths.now answer (told_by result) }
+    ensures { IsFiledTold path.now answer (told_by result) }
 {
     match answer {
         Ok(summary) => Ok(counted_reply(alloc, &summary)),
         Err(WritingFault::Unfinished) => unfinished_reply(alloc),
         Err(WritingFault::Memory) => Err(Memory),
-        Err(WritingFault::Io(number)) => Ok(unwritten_reply(alloc, written_path(paths, number))),
+        Err(WritingFault::Io(_)) => Ok(unwritten_reply(alloc, path)),
     }
 }
 
@@ -136,7 +171,22 @@ impl<'f, 'e, F: Files, E: Sink> FileService<'f, 'e, F, E> {
         };
         self.service.session.well_formed();
         let answer = file_texts(self.files, &self.service.session, &paths);
-        filed_reply(self.service.alloc, answer, &paths)
+        let blamed = blamed_path(&paths, &answer);
+        filed_reply(self.service.alloc, answer, blamed)
+    }
+
+    /// Writes what is inferred into the file at the path, and tells that.
+    fn infer(&mut self, path: &str) -> Result<Reply, Memory>
+        ensures inferring { IsInferring (F.is_known self.old.files.now) path.now (filed F.Files self.old) (told_by result) (filed F.Files self.new) }
+        ensures document { self.new.document ≡ self.old.document }
+        ensures told { self.new.told ≡ self.old.told }
+        ensures known { F.is_known self.new.files.now ≡ F.is_known self.old.files.now }
+        ensures files { self.new.files.ghost_name ≡ self.old.files.ghost_name }
+        ensures err { self.new.err ≡ self.old.err }
+    {
+        self.service.session.well_formed();
+        let answer = file_inferred(self.files, &self.service.session, path);
+        filed_reply(self.service.alloc, answer, path)
     }
 
     /// Answers a command that writes nothing. Where progress is told, a run is one in slices, behind each of which it is told how far it
@@ -171,8 +221,9 @@ impl<'f, 'e, F: Files, E: Sink> Service for FileService<'f, 'e, F, E> {
     }
 
     fn answer(&mut self, command: Command<'_>, payload: &[u8]) -> Result<Reply, Memory> {
-        match command.text_paths() {
-            Some(texts) => self.file(&texts),
+        match command.writing() {
+            Some(Writing::Texts(texts)) => self.file(&texts),
+            Some(Writing::Inferred(path)) => self.infer(path),
             None => self.serve(command, payload),
         }
     }

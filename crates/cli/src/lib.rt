@@ -3,8 +3,8 @@
 
 ghost use Rattle.cli.specs.Filing.{FiledConversationsAreCalls, FiledConversationsAreOneDocument};
 ghost use Rattle.cli.specs.SpokenSessions.{SpokenSessionsAreAnswered};
-ghost use Rattle.cli.specs.Theorems.{AcceptedFilesAreRight, AcceptedTextsAreRight, EveryDocumentIsClassified, ReadDocumentsAreNoStop, WhatIsRestricted, WhatIsWrittenIsAccepted, WrittenFilesAreAccepted};
-ghost use Rattle.cli.specs.WordsOfRuns.{WordsOfCheckCheck, WordsOfClassifyClassify, WordsOfRestrictRestrict};
+ghost use Rattle.cli.specs.Theorems.{AcceptedFilesAreRight, AcceptedTextsAreRight, EveryDocumentIsClassified, InferredAxiomsSayTheSame, ReadDocumentsAreNoStop, WhatIsRestricted, WhatIsWrittenIsAccepted, WrittenFilesAreAccepted};
+ghost use Rattle.cli.specs.WordsOfRuns.{WordsOfCheckCheck, WordsOfClassifyClassify, WordsOfInferInfer, WordsOfRestrictRestrict};
 
 mod asking;
 mod checking;
@@ -13,6 +13,7 @@ mod converting;
 mod fault;
 mod filing;
 mod formats;
+mod inferring;
 mod printing;
 mod reading;
 mod restricting;
@@ -32,13 +33,15 @@ pub use classification::Summary;
 pub use classifying::classify_document;
 pub use command_line::{Command, Conversion, FormatNumber, LineFault, Paths, Task, task};
 pub use converting::convert_certificate;
-pub use fault::{CheckFault, ClassifyFault, ConversionFault, RestrictionFault};
+pub use fault::{CheckFault, ClassifyFault, ConversionFault, InferenceFault, RestrictionFault};
+pub use inferring::infer_document;
 pub use profile::{DocumentFault, Limits, Version, read_document};
 pub use restricting::restrict_document;
 pub use run::perform;
 pub use session::{
-    Answer, Answers, AskFault, Asked, Explanation, Interpretation, Line, QueryFault, Question,
-    QuestionFault, Related, Session, Shown, Side, Stop, WritingFault, query_text, question_text,
+    Answer, Answers, AskFault, Asked, Explanation, Inferred, Interpretation, Line, QueryFault,
+    Question, QuestionFault, Related, RunFault, Session, Shown, Side, Stop, WritingFault,
+    query_text, question_text,
 };
 pub use starting::start;
 pub use statements_text::Restriction;
@@ -80,12 +83,13 @@ pub fn accepted_files_are_right()
     ensures { AcceptedFilesAreRight }
 {}
 
-/// A run of `perform` whose words ask for a check, for a classification or for a restriction is a run of that command on the same paths,
-/// within the limits of the words and behind its progress, unless memory is refused for reading the words.
+/// A run of `perform` whose words ask for a check, for a classification, for a restriction or for what is inferred is a run of that command
+/// on the same paths, within the limits of the words and behind its progress, unless memory is refused for reading the words.
 pub fn words_ask_for_one_run()
     ensures check { WordsOfCheckCheck }
     ensures classify { WordsOfClassifyClassify }
     ensures restrict { WordsOfRestrictRestrict }
+    ensures infer { WordsOfInferInfer }
 {}
 
 /// A run of `restrict` over files whose content is known that ends with status 0: its first file held the text of a document, its second
@@ -94,6 +98,14 @@ pub fn words_ask_for_one_run()
 /// reads as.
 pub fn what_is_restricted()
     ensures { WhatIsRestricted }
+{}
+
+/// A run of `infer` over files whose content is known that ends with status 0: its first file held a document, which reads as an ontology;
+/// its second holds the text of a document that reads, in each version, as an ontology with the names of the first, from whose axioms the same
+/// subsumptions between classes and the same types of individuals follow, and which contradict one another where those of the first do; and
+/// the counts of the first are printed.
+pub fn inferred_axioms_say_the_same()
+    ensures { InferredAxiomsSayTheSame }
 {}
 
 /// Whatever is asked in a conversation with a session over files, and whatever is replied: it is calls of the session, one after the

@@ -12,6 +12,7 @@ use crate::classifying::classify_document;
 use crate::converting::converted_file;
 use crate::fault::{CheckFault, ClassifyFault, ConversionFault};
 use crate::formats::format_of;
+use crate::inferring::perform_infer;
 use crate::printing::{
     check_message, classify_message, print_numbered, print_summary, print_unconverted,
     print_verdict, tell, tell_out_of_memory, unwritten_message, usage_message,
@@ -257,7 +258,7 @@ pub fn perform<F: Files, O: Sink, E: Sink>(
     // What the words ask for, which file holds which text, what is printed, and the status.
     ensures performed { Performs F.Files O.Sink E.Sink (map (λ w. w.now) words.entry.now)
         (files.old, out.old, err.old) (files.new, out.new, err.new) result }
-    // Only a classification, a conversion, a restriction and a session write files.
+    // Only a classification, a conversion, a restriction, an inference and a session write files.
     ensures untouched { AskForNoFiles (map (λ w. w.now) words.entry.now) → files.new ≡ files.old }
 {
     let task = match task(alloc, words) {
@@ -278,6 +279,9 @@ pub fn perform<F: Files, O: Sink, E: Sink>(
         }
         Command::Restrict { document, output } => {
             perform_restrict(alloc, document, output, &limits, files, out, err, state)
+        }
+        Command::Infer { document, output } => {
+            perform_infer(alloc, document, output, &limits, files, out, err, state)
         }
         Command::Ask { document, question } => {
             perform_ask(alloc, document, question, &limits, files, out, err, state)

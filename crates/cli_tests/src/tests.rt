@@ -7,6 +7,7 @@ mod fault_texts;
 mod forged;
 mod formats;
 mod hierarchies;
+mod inferring;
 mod progress;
 mod refusals;
 mod refused;

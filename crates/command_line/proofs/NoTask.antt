@@ -4,7 +4,7 @@ use Rattle.std.specs.Prelude.{◌||◌, bytes_eq, codes, not}
 use Rattle.std.proofs.lemmas.Option.{same_Some}
 use Rattle.clap.specs.Words.{Row, Text}
 use Rattle.command_line.specs.declared.tasks.Command.{Command}
-use Rattle.command_line.specs.declared.tasks.Command.TheVariants.{Ask, Check, Classify, Convert, Query, Restrict, Session}
+use Rattle.command_line.specs.declared.tasks.Command.TheVariants.{Ask, Check, Classify, Convert, Infer, Query, Restrict, Session}
 use Rattle.command_line.specs.declared.tasks.LineFault.{LineFault}
 use Rattle.command_line.specs.declared.tasks.LineFault.TheVariants.{Line, Memory}
 use Rattle.command_line.specs.declared.tasks.Task.{Task}
@@ -31,6 +31,7 @@ said_by name rows (Classify paths format) is = rw is.0 (refl, refl)
 said_by name rows (Check paths) is = rw is.0 (refl, refl)
 said_by name rows (Convert conversion) is = rw is.0 (refl, refl)
 said_by name rows (Restrict document output) is = rw is.0 (refl, refl)
+said_by name rows (Infer document output) is = rw is.0 (refl, refl)
 said_by name rows (Ask document (Names Superclasses class)) is = rw is.1.0 (refl, refl)
 said_by name rows (Ask document (Names Subclasses class)) is = rw is.1.0 (refl, refl)
 said_by name rows (Ask document (Names Equivalents class)) is = rw is.1.0 (refl, refl)

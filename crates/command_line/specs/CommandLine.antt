@@ -21,7 +21,7 @@ use Rattle.program.specs.declared.question.Side.TheVariants.{Above, Below}
 use Rattle.command_line.specs.declared.tasks.LineFault.{LineFault}
 use Rattle.command_line.specs.declared.tasks.LineFault.TheVariants.{Line, Memory}
 use Rattle.command_line.specs.declared.tasks.Command.{Command}
-use Rattle.command_line.specs.declared.tasks.Command.TheVariants.{Ask, Check, Classify, Convert, Query, Restrict, Session}
+use Rattle.command_line.specs.declared.tasks.Command.TheVariants.{Ask, Check, Classify, Convert, Infer, Query, Restrict, Session}
 use Rattle.command_line.specs.declared.tasks.Task.{Task}
 use Rattle.program.specs.declared.limits.Limits.{Limits}
 use Rattle.program.specs.declared.limits.TheConstants.{MOST_BYTES, MOST_FACTS}
@@ -121,9 +121,17 @@ convert_app = with_reading (with_conversion (new_app (codes "convert")))
 abbrev pub restrict_app : App
 restrict_app = with_reading (with_rule (with_rule (new_app (codes "restrict")) (path (codes "DOC"))) (path (codes "OUT")))
 
+-- `infer DOC OUT [--max-facts N] [--max-bytes N] [--profile N]`
+abbrev pub infer_app : App
+infer_app = with_limits (with_rule (with_rule (new_app (codes "infer")) (path (codes "DOC"))) (path (codes "OUT")))
+
 -- the commands that write or read certificates
 abbrev pub with_certificates : App → App
 with_certificates app = with_subcommand (with_subcommand (with_subcommand app classify_app.top) check_app.top) convert_app.top
+
+-- the commands that write a document
+abbrev pub with_documents : App → App
+with_documents app = with_subcommand (with_subcommand app restrict_app.top) infer_app.top
 
 -- `WORD DOC CLASS [--max-facts N] [--max-bytes N] [--profile N]`
 abbrev pub class_app : (word : Text) → App
@@ -166,7 +174,7 @@ with_questions app = with_subcommand (with_subcommand (with_sides (with_related 
 -- the program, whose first word after its name is one of the commands
 abbrev pub elc_app : App
 elc_app =
-    with_subcommand (with_questions (with_subcommand (with_certificates (on_top (λ s. record s { subcommand_required = true }) (new_app (codes "elc")))) restrict_app.top)) session_app.top
+    with_subcommand (with_questions (with_documents (with_certificates (on_top (λ s. record s { subcommand_required = true }) (new_app (codes "elc")))))) session_app.top
 
 -- ---- what the words ask for
 
@@ -228,6 +236,7 @@ IsCommand name rows (Classify paths format) = (name ≡ codes "classify") × Are
 IsCommand name rows (Check paths) = (name ≡ codes "check") × ArePaths rows paths
 IsCommand name rows (Convert conversion) = (name ≡ codes "convert") × IsConversion rows conversion
 IsCommand name rows (Restrict document output) = (name ≡ codes "restrict") × (first_of (codes "DOC") rows ≡ Some document.now) × (first_of (codes "OUT") rows ≡ Some output.now)
+IsCommand name rows (Infer document output) = (name ≡ codes "infer") × (first_of (codes "DOC") rows ≡ Some document.now) × (first_of (codes "OUT") rows ≡ Some output.now)
 IsCommand name rows (Ask document question) = (first_of (codes "DOC") rows ≡ Some document.now) × IsQuestion name rows question
 IsCommand name rows (Query document expression) = (name ≡ codes "query") × (first_of (codes "DOC") rows ≡ Some document.now) × (first_of (codes "EXPRESSION") rows ≡ Some expression.now)
 IsCommand name rows (Session document) = (name ≡ codes "session") × (first_of (codes "DOC") rows ≡ Some document.now)

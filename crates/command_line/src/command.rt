@@ -3,7 +3,7 @@ ghost use Rattle.std.specs.Fmt.{decimal};
 ghost use Rattle.std.specs.Prelude.{◌≡◌, ◌||◌, IfOk, IsOkAnd, false};
 ghost use Rattle.clap.specs.Words.{app_of, rule_of, with_rule, with_subcommand as app_with_subcommand};
 ghost use Rattle.clap.specs.declared.builder.command.Command.TheViews.{out-Command as fields_of};
-ghost use Rattle.command_line.specs.CommandLine.{number, path, flag, max_facts, max_bytes, format, with_reading as app_with_reading, with_paths as app_with_paths, with_names as app_with_names, with_flags as app_with_flags, with_progress as app_with_progress, with_limits as app_with_limits, with_conversion as app_with_conversion, with_certificates as app_with_certificates, with_questions as app_with_questions, with_related as app_with_related, with_sides as app_with_sides, check_app, class_app, classify_app, convert_app, explain_app, query_app, restrict_app, session_app, elc_app};
+ghost use Rattle.command_line.specs.CommandLine.{number, path, flag, max_facts, max_bytes, format, with_reading as app_with_reading, with_paths as app_with_paths, with_names as app_with_names, with_flags as app_with_flags, with_progress as app_with_progress, with_limits as app_with_limits, with_conversion as app_with_conversion, with_certificates as app_with_certificates, with_documents as app_with_documents, with_questions as app_with_questions, with_related as app_with_related, with_sides as app_with_sides, check_app, class_app, classify_app, convert_app, explain_app, infer_app, query_app, restrict_app, session_app, elc_app};
 
 use clap::{Arg, ArgAction, Command, value_parser};
 use program::{MOST_BYTES, MOST_BYTES_TEXT, MOST_FACTS, MOST_FACTS_TEXT};
@@ -16,6 +16,7 @@ const EXAMPLES: &str = "Examples:
   elc check food.ofn food.tax food.inst food.cert
   elc convert food.ofn food.cert food1.cert --format 1
   elc restrict food.ofn kept.ofn
+  elc infer food.ofn inferred.ofn
   elc instances food.ofn http://example.org/Pizza
   elc parents food.ofn http://example.org/Pizza
   elc explain food.ofn http://example.org/Pizza http://example.org/Food
@@ -32,6 +33,8 @@ const CONVERT_ABOUT: &str = "Writes a certificate again in a format, without che
 
 const RESTRICT_ABOUT: &str =
     "Writes what of a document is of the profile as a document, and prints what is not";
+
+const INFER_ABOUT: &str = "Writes the inferred axioms of DOC as a document to OUT";
 
 const INSTANCES_ABOUT: &str = "Prints the individuals that belong to a class";
 
@@ -64,7 +67,7 @@ const CERTIFICATE_HELP: &str = "The file of the certificate";
 
 const OUTPUT_HELP: &str = "The file to write, which may be that of the certificate";
 
-const RESTRICTED_HELP: &str = "The file to write";
+const WRITTEN_HELP: &str = "The file to write";
 
 const CLASS_HELP: &str = "The class, by its name in full, as http://example.org/Pizza";
 
@@ -243,8 +246,18 @@ fn restrict_command<'a>(alloc: Global) -> Result<Command<'a>, AllocError>
 {
     let command = Command::new(alloc, "restrict").about(RESTRICT_ABOUT);
     let command = with_path(alloc, command, "DOC", DOCUMENT_HELP)?;
-    let command = with_path(alloc, command, "OUT", RESTRICTED_HELP)?;
+    let command = with_path(alloc, command, "OUT", WRITTEN_HELP)?;
     with_reading(alloc, command)
+}
+
+fn infer_command<'a>(alloc: Global) -> Result<Command<'a>, AllocError>
+    ensures app { IfOk result (λ c. app_of c ≡ infer_app) }
+    ensures local { IfOk result (λ c. (fields_of c).has_globals ≡ false) }
+{
+    let command = Command::new(alloc, "infer").about(INFER_ABOUT);
+    let command = with_path(alloc, command, "DOC", DOCUMENT_HELP)?;
+    let command = with_path(alloc, command, "OUT", WRITTEN_HELP)?;
+    with_limits(alloc, command)
 }
 
 /// The command with those that write or read certificates.
@@ -255,6 +268,15 @@ fn with_certificates<'a>(alloc: Global, command: Command<'a>) -> Result<Command<
     let command = with_subcommand(command, classify_command(alloc))?;
     let command = with_subcommand(command, check_command(alloc))?;
     with_subcommand(command, convert_command(alloc))
+}
+
+/// The command with those that write a document.
+fn with_documents<'a>(alloc: Global, command: Command<'a>) -> Result<Command<'a>, AllocError>
+    ensures app { IfOk result (λ c. app_of c ≡ app_with_documents (app_of command.entry)) }
+    ensures local { (fields_of command.entry).has_globals ≡ false → IfOk result (λ c. (fields_of c).has_globals ≡ false) }
+{
+    let command = with_subcommand(command, restrict_command(alloc))?;
+    with_subcommand(command, infer_command(alloc))
 }
 
 /// The command of that word, which asks about a class.
@@ -384,7 +406,7 @@ pub(crate) fn elc_command<'a>(alloc: Global) -> Result<Command<'a>, AllocError>
         .after_help(EXAMPLES)
         .subcommand_required(true);
     let command = with_certificates(alloc, command)?;
-    let command = with_subcommand(command, restrict_command(alloc))?;
+    let command = with_documents(alloc, command)?;
     let command = with_questions(alloc, command)?;
     with_subcommand(command, session_command(alloc))
 }

@@ -47,6 +47,12 @@ pub enum Command<'a> {
         /// The file that is written.
         output: &'a str,
     },
+    /// Write the inferred axioms of the document.
+    Infer {
+        document: &'a str,
+        /// The file that is written.
+        output: &'a str,
+    },
     /// Answer the question.
     Ask {
         document: &'a str,

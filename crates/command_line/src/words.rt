@@ -181,6 +181,11 @@ fn named<'a>(name: &str, inner: &ArgMatches<'a>) -> Option<Command<'a>>
             let output = word(inner, "OUT")?;
             Some(Command::Restrict { document, output })
         }
+        "infer" => {
+            let document = word(inner, "DOC")?;
+            let output = word(inner, "OUT")?;
+            Some(Command::Infer { document, output })
+        }
         "query" => Some(Command::Query {
             document: word(inner, "DOC")?,
             expression: word(inner, "EXPRESSION")?,

@@ -4,8 +4,8 @@ use axioms::BuildFault;
 use certificate::{CertFault, MakeFault};
 use certificate_text::CertWriteFault;
 use cli::{
-    AskFault, CheckFault, ClassifyFault, ConversionFault, ConvertFault, DocumentFault, LineFault,
-    QueryFault, QuestionFault, RestrictionFault, Stop, WritingFault,
+    AskFault, CheckFault, ClassifyFault, ConversionFault, ConvertFault, DocumentFault,
+    InferenceFault, LineFault, QueryFault, QuestionFault, RestrictionFault, Stop, WritingFault,
 };
 use device::{Failed, Memory, ReadFault, WriteFault};
 use fs_parser::Stopped;
@@ -259,6 +259,16 @@ fn restriction_faults_are_shown(alloc: Global) -> Result<bool, AllocError> {
     )
 }
 
+fn inference_faults_are_shown(alloc: Global) -> Result<bool, AllocError> {
+    Ok(
+        is_shown(
+            alloc,
+            InferenceFault::Run(RunFault::Limit),
+            "more facts than the limit",
+        )? && is_shown(alloc, InferenceFault::Unwritten, "the text's sink failed")?,
+    )
+}
+
 #[test]
 fn faults_of_programs(rt: HostRuntime) -> Result<(), Fail> {
     let alloc = rt.alloc();
@@ -267,6 +277,7 @@ fn faults_of_programs(rt: HostRuntime) -> Result<(), Fail> {
     assert!(rt; check_faults_are_shown(alloc)?, "CheckFault");
     assert!(rt; conversion_faults_are_shown(alloc)?, "ConversionFault");
     assert!(rt; restriction_faults_are_shown(alloc)?, "RestrictionFault");
+    assert!(rt; inference_faults_are_shown(alloc)?, "InferenceFault");
     assert!(rt;
         is_shown(alloc, LineFault::Memory, "out of memory")?,
         "LineFault"

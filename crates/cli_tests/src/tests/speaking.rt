@@ -11,24 +11,37 @@ pub(super) fn files_asked(alloc: Global, asked: &str) -> Result<MemoryFiles, Mem
     Ok(files)
 }
 
-/// Texts are asked for before the run, and behind it.
+/// Texts are asked for before the run, and behind it, and what is inferred.
 const ASKED: &str = "write tax inst cert
+infer out
 run
 write tax inst cert
+infer out
 ";
 
 const REPLIED: &str = "no 2 19
+not run to its end
+no 2 19
 not run to its end
 ok 8
 facts 8
 ok 43
 consistent classes 4 individuals 0 facts 8
+ok 43
+consistent classes 4 individuals 0 facts 8
 ";
 
-/// What a session over files replies to what is asked, and the texts that it wrote.
+/// What is inferred of the document.
+const INFERRED: &[u8] =
+    b"Ontology(\nDeclaration(Class(<x:A>))\nDeclaration(Class(<x:B>))\nSubClassOf(<x:A> <x:B>)\n)\n";
+
+/// What a session over files replies to what is asked, and the texts that it wrote, where it wrote what is inferred, too.
 fn spoken<R: AllocGlobal + RandomSource>(rt: &R, asked: &str) -> Result<(Run, Texts), Fail> {
     let mut files = files_asked(rt.alloc(), asked)?;
     let run = run_of(rt, SESSION, &mut files)?;
+    if files.bytes("out") != Some(INFERRED) {
+        return Err(Fail::from("other inferred axioms"));
+    }
     let texts = texts_in(rt.alloc(), &files)?;
     Ok((run, texts))
 }
@@ -104,6 +117,7 @@ fn texts_are_those_of_all_that_was_added(rt: HostRuntime) -> Result<(), Fail> {
 /// Texts are asked for in files that can not be written, and the session goes on.
 pub(super) const ASKED_UNWRITTEN: &str = "run
 write tax inst cert
+infer out
 status
 ";
 
@@ -113,7 +127,8 @@ fn a_file_that_is_not_written_is_named(rt: HostRuntime) -> Result<(), Fail> {
     files.lock();
     let run = run_of(&rt, SESSION, &mut files)?;
     let texts = texts_in(rt.alloc(), &files)?;
-    let told = "ok 8\nfacts 8\nno 6 17\ncannot write tax\nok 26\nfacts 8 served 8 bytes 33\n";
+    let told =
+        "ok 8\nfacts 8\nno 6 17\ncannot write tax\nno 6 17\ncannot write out\nok 26\nfacts 8 served 8 bytes 33\n";
     assert!(rt; is_run(&run, 0, told, ""));
     assert!(rt; are_same(&texts, &no_texts(rt.alloc())));
     Ok(())

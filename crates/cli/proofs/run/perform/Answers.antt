@@ -86,3 +86,18 @@ pub returns-in-Restrict-clause-untouched : goal.returns-in-Restrict-clause-untou
 returns-in-Restrict-clause-untouched g c none =
     let bad : true ≡ false = sym (ap writes_files c.in-Restrict.is) ∙ none c.in-Ok.task c.in-Ok.ensures.asked in
     absurd (cc)
+
+pub returns-in-Infer-clause-performed : goal.returns-in-Infer-clause-performed
+returns-in-Infer-clause-performed g c =
+    let task = c.in-Ok.task in
+    let call = c.perform_infer in
+    let old = outputs g.O.Sink g.E.Sink c.args.out.now c.args.err.now in
+    let new = outputs g.O.Sink g.E.Sink call.new.out call.new.err in
+    let files = g.F.Files in
+    let P : Command → Type 0 = λ command. IsCommandRun task.progress command task.limits (store files c.args.files.now call.new.files) (files.content c.args.files.now) (files.content call.new.files) old new call.result in
+    inl (task, c.in-Ok.ensures.asked, nothing_told task.progress old _ (subst P (sym c.in-Infer.is) call.ensures))
+
+pub returns-in-Infer-clause-untouched : goal.returns-in-Infer-clause-untouched
+returns-in-Infer-clause-untouched g c none =
+    let bad : true ≡ false = sym (ap writes_files c.in-Infer.is) ∙ none c.in-Ok.task c.in-Ok.ensures.asked in
+    absurd (cc)

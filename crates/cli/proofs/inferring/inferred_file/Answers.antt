@@ -1,0 +1,51 @@
+use Rattle.std.proofs.Common.{◌∙◌, ℕ, refl, subst}
+use Rattle.cli.proofs.Blamed.{IsCounted}
+use Rattle.cli.proofs.Inferences.{inference_made}
+use Rattle.cli.proofs.Kept.{refused_memory}
+use Rattle.cli.proofs.ReadFiles.{IsOfFiles}
+use Rattle.cli.proofs.Stored.{one_left, stays}
+use Rattle.cli.specs.Files.{Store, store}
+use Rattle.device.specs.Device.{HasFailed}
+use Rattle.session.specs.Devices.{Device, seen}
+use Rattle.source_lines.specs.Sources.{source_state}
+use Rattle.cli.proofs.inferring.inferred_file.Goals as goal
+
+pub returns-in_default : goal.returns-in_default
+returns-in_default g c = record { answered = (refused_memory c.args.limits.now.version (g.F.Files.content c.args.files.now c.args.path.now) c.args.limits.now.max_bytes, stays (g.F.Files.is_known c.args.files.now) _ _ refl); blames = (tt, refl); others = λ other no. refl }
+
+pub returns-in_default-writer : goal.returns-in_default-writer
+returns-in_default-writer g c = record {
+  answered = (refused_memory c.args.limits.now.version (g.F.Files.content c.args.files.now c.args.path.now) c.args.limits.now.max_bytes, stays (g.F.Files.is_known c.args.files.now) _ _ (c.writer.ensures.kept c.args.output.now));
+  blames = (tt, c.writer.ensures.unfailed);
+  others = λ other no. c.writer.ensures.kept other;
+}
+
+pub returns : goal.returns
+returns g c =
+    let files = g.F.Files in
+    let source = g.F.In.Source in
+    let sink = g.F.Out.Sink in
+    let call = c.infer_document-answer in
+    let document = c.args.path.now in
+    let output = c.args.output.now in
+    let first = c.args.files.now in
+    let made = c.writer.new.self in
+    let last = c.close.new.self in
+    let known = files.is_known first in
+    let s : Store = store files first last in
+    let old : Device = seen sink c.in-Ok-writer.written in
+    let new : Device = seen sink call.new.output in
+    let path = call.ensures.path ∙ c.in-Ok-writer.ensures.path in
+    let of : IsOfFiles files.reads_fail known (source_state source call.new.document) = record {
+      all_known = λ e. g.met.F.Files.all_known e first;
+      unfailing = λ e. g.met.F.Files.unfailing e call.new.document;
+    } in
+    let P : ℕ → Type 0 = λ n. HasFailed n (files.failed_writes last) in
+    let counted : IsCounted (files.failed_writes first) (files.failed_writes last) (sink.failures call.new.output) = record {
+      unfailed = λ e. c.close.ensures.unfailed e ∙ c.writer.ensures.unfailed;
+      failed = λ h. subst P c.writer.ensures.unfailed (c.close.ensures.failed h);
+    } in
+    inference_made document output c.args.limits.now s (files.content first) (files.content last) (source_state source c.in-Ok.document) (source_state source call.new.document) old new call.result
+    c.in-Ok.ensures of c.in-Ok-writer.ensures.taken c.in-Ok-writer.ensures.failures
+    (one_left (files.content first) (files.content made) (files.content last) (sink.path call.new.output) output (sink.taken call.new.output) c.writer.ensures.kept path c.close.ensures.closed)
+    counted (λ other no. c.close.ensures.closed.others other (λ e. no (e ∙ path)) ∙ c.writer.ensures.kept other) call.ensures.answered call.ensures.read call.ensures.beyond

@@ -1,0 +1,118 @@
+//! What is inferred of a document, in a file.
+ghost use Rattle.cli.specs.Files.{store};
+ghost use Rattle.cli.specs.Inferring.{Infers, IsInferenceRead};
+ghost use Rattle.cli.specs.Messages.{outputs};
+ghost use Rattle.cli.specs.Runs.{IsInferMade, IsInferTold, Runs};
+ghost use Rattle.cli.specs.declared.fault.InferenceFault.TheVariants as faults;
+ghost use Rattle.profile.specs.declared.fault.DocumentFault.TheVariants as document_faults;
+ghost use Rattle.session.specs.declared.run_fault.RunFault.TheVariants as run_faults;
+ghost use Rattle.source_lines.specs.Sources.{source_state};
+ghost use Rattle.std.specs.Prelude.{◌≡◌, ◌+◌, ◌<◌, IsErrOf};
+
+use crate::fault::InferenceFault;
+use crate::printing::{print_summary, tell, unwritten_message};
+use crate::sources::source_of;
+use classification::Summary;
+use command_line::Command;
+use device::{Sink, Source, write_all};
+use profile::{DocumentFault, Limits};
+use session::{RunFault, as_question_fault, inference_of};
+use speech::question_message;
+use std::alloc::Global;
+use std::hash::RandomState;
+use system_files::Files;
+
+/// Reads the document, and writes what is inferred of it, as a document: what `inference_of` gives. All is made in memory before anything
+/// is written. It gives the counts.
+///
+/// # Errors
+///
+/// `Run` where the document is not read as an ontology, its closure has more facts than the limit, or memory was refused; then nothing is
+/// written. `Unwritten` where the sink failed.
+pub fn infer_document<D: Source, S: Sink>(
+    alloc: Global,
+    document: &mut D,
+    output: &mut S,
+    limits: &Limits,
+    state: RandomState,
+) -> Result<Summary, InferenceFault>
+    // What the answer says of the document, and what the sink has taken.
+    ensures answered { Infers S.Sink limits.now (D.left document.old) output.old output.new result }
+    // Of a source that does not tell its bytes, too: it gave more than the limit.
+    ensures beyond { IsErrOf result (faults.Run (run_faults.Document document_faults.TooLarge)) → D.most document.new + limits.now.max_bytes < D.most document.old }
+    // What was read of the document; its source has not failed but where that is the fault.
+    ensures read { IsInferenceRead result (source_state D.Source document.old) (source_state D.Source document.new) }
+    ensures path { S.path output.new ≡ S.path output.old }
+{
+    let inferred = match inference_of(alloc, document, limits, state) {
+        Ok(inferred) => inferred,
+        Err(fault) => return Err(InferenceFault::Run(fault)),
+    };
+    match write_all(output, &inferred.text) {
+        Ok(()) => Ok(inferred.summary),
+        Err(_) => Err(InferenceFault::Unwritten),
+    }
+}
+
+/// Reads the document at the path, and writes what is inferred of it into the other file, which may be the same.
+fn inferred_file<F: Files>(
+    alloc: Global,
+    path: &str,
+    output: &str,
+    limits: &Limits,
+    files: &mut F,
+    state: RandomState,
+) -> Result<Summary, InferenceFault>
+    ensures { IsInferMade path.now output.now limits.now (store F.Files files.old files.new) (F.content files.old) (F.content files.new) result }
+{
+    let Ok(mut document) = source_of(files, path) else {
+        return Err(InferenceFault::Run(RunFault::Document(DocumentFault::Memory)));
+    };
+    let Ok(mut written) = files.writer(output) else {
+        return Err(InferenceFault::Run(RunFault::Document(DocumentFault::Memory)));
+    };
+    let answer = infer_document(alloc, &mut document, &mut written, limits, state);
+    files.close(written);
+    answer
+}
+
+/// Prints the counts of the document at the path; or why nothing is written into the other file.
+fn tell_inferred<O: Sink, E: Sink>(
+    alloc: Global,
+    answer: Result<Summary, InferenceFault>,
+    path: &str,
+    output: &str,
+    limits: &Limits,
+    out: &mut O,
+    err: &mut E,
+) -> u8
+    ensures { IsInferTold path.now output.now limits.now answer
+        (outputs O.Sink E.Sink out.old err.old) (outputs O.Sink E.Sink out.new err.new) result }
+{
+    match answer {
+        Ok(summary) => print_summary(out, &summary),
+        Err(InferenceFault::Run(fault)) => tell(
+            err,
+            question_message(alloc, &as_question_fault(fault), path, limits),
+        ),
+        Err(InferenceFault::Unwritten) => tell(err, unwritten_message(alloc, output)),
+    }
+}
+
+/// Writes what is inferred of the document at the path into the other file, and prints the counts.
+pub(crate) fn perform_infer<F: Files, O: Sink, E: Sink>(
+    alloc: Global,
+    path: &str,
+    output: &str,
+    limits: &Limits,
+    files: &mut F,
+    out: &mut O,
+    err: &mut E,
+    state: RandomState,
+) -> u8
+    ensures { Runs F.Files O.Sink E.Sink (Command.Infer path.entry output.entry) limits.now
+        (files.old, out.old, err.old) (files.new, out.new, err.new) result }
+{
+    let answer = inferred_file(alloc, path, output, limits, files, state);
+    tell_inferred(alloc, answer, path, output, limits, out, err)
+}
