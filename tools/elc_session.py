@@ -162,6 +162,10 @@ class Session(contextlib.AbstractContextManager):
         """Writes the texts of the classification into the files at these paths, and gives the line of `elc classify`."""
         return self.command(f"write {taxonomy} {instances} {certificate}")
 
+    def infer(self, path):
+        """Writes what follows into the file at this path, as a document, and gives the line of `elc classify`."""
+        return self.command(f"infer {path}")
+
 
 def answer(session, line):
     """The reply to a typed line, which is sent as it is, but that the size of a text stands in front of it."""
