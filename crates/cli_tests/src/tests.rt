@@ -227,6 +227,36 @@ fn alone<R: AllocGlobal + RandomSource>(
     run_of(rt, words, &mut files)
 }
 
+/// A run that writes a document, and what it wrote.
+fn document_by<R: AllocGlobal + RandomSource>(
+    rt: &R,
+    words: &[&str],
+    document: &str,
+) -> Result<(Run, Vec<u8>), Fail> {
+    let mut files = files_with(rt.alloc(), document.as_bytes())?;
+    let run = run_of(rt, words, &mut files)?;
+    let written = held(rt.alloc(), &files, "out")?;
+    Ok((run, written))
+}
+
+/// Words that write a document, the document that they read, the status, what is printed, what is told, and what is
+/// written.
+struct Writing {
+    words: &'static [&'static str],
+    document: &'static str,
+    status: u8,
+    out: &'static str,
+    err: &'static str,
+    written: &'static str,
+}
+
+/// Whether the run ends so, and writes that.
+fn is_written<R: AllocGlobal + RandomSource>(rt: &R, case: &Writing) -> Result<bool, Fail> {
+    let (run, written) = document_by(rt, case.words, case.document)?;
+    let told = is_run(&run, case.status, case.out, case.err);
+    Ok(told && written.as_slice() == case.written.as_bytes())
+}
+
 const CLASSIFY: &[&str] = &["elc", "classify", "doc", "tax", "inst", "cert"];
 
 const CHECK: &[&str] = &["elc", "check", "doc", "tax", "inst", "cert"];

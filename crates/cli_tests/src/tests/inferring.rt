@@ -2,28 +2,6 @@
 
 use super::*;
 
-/// A run, and what it wrote.
-fn inferred_by<R: AllocGlobal + RandomSource>(
-    rt: &R,
-    words: &[&str],
-    document: &[u8],
-) -> Result<(Run, Vec<u8>), Fail> {
-    let mut files = files_with(rt.alloc(), document)?;
-    let run = run_of(rt, words, &mut files)?;
-    let written = held(rt.alloc(), &files, "out")?;
-    Ok((run, written))
-}
-
-/// Words, a document, the status, what is printed, what is told, and what is written.
-struct Case {
-    words: &'static [&'static str],
-    document: &'static str,
-    status: u8,
-    out: &'static str,
-    err: &'static str,
-    written: &'static str,
-}
-
 const INFER: &[&str] = &["elc", "infer", "doc", "out"];
 
 /// A document with a group above all classes, one of two names, and one below all classes.
@@ -34,8 +12,8 @@ const GROUPS: &str =
 const GROUPS_INFERRED: &str =
     "Ontology(\nDeclaration(Class(<x:A>))\nDeclaration(Class(<x:B>))\nDeclaration(Class(<x:C>))\nDeclaration(Class(<x:T>))\nDeclaration(Class(<x:U>))\nDeclaration(ObjectProperty(<x:r>))\nDeclaration(NamedIndividual(<x:a>))\nDeclaration(NamedIndividual(<x:b>))\nEquivalentClasses(<http://www.w3.org/2002/07/owl#Thing> <x:T>)\nEquivalentClasses(<x:A> <x:B>)\nSubClassOf(<x:A> <x:C>)\nEquivalentClasses(<http://www.w3.org/2002/07/owl#Nothing> <x:U>)\nClassAssertion(<x:A> <x:a>)\n)\n";
 
-const CASES: &[Case] = &[
-    Case {
+const CASES: &[Writing] = &[
+    Writing {
         words: INFER,
         document: GROUPS,
         status: 0,
@@ -43,7 +21,7 @@ const CASES: &[Case] = &[
         err: "",
         written: GROUPS_INFERRED,
     },
-    Case {
+    Writing {
         words: INFER,
         document: "Ontology(SubClassOf(owl:Thing owl:Nothing) Declaration(Class(<x:A>)))",
         status: 0,
@@ -51,7 +29,7 @@ const CASES: &[Case] = &[
         err: "",
         written: "Ontology(\nDeclaration(Class(<x:A>))\nSubClassOf(<http://www.w3.org/2002/07/owl#Thing> <http://www.w3.org/2002/07/owl#Nothing>)\n)\n",
     },
-    Case {
+    Writing {
         words: INFER,
         document: "Ontology()",
         status: 0,
@@ -59,7 +37,7 @@ const CASES: &[Case] = &[
         err: "",
         written: "Ontology(\n)\n",
     },
-    Case {
+    Writing {
         words: INFER,
         document: "Ontology(",
         status: 3,
@@ -67,7 +45,7 @@ const CASES: &[Case] = &[
         err: "P2 at byte 9\n",
         written: "",
     },
-    Case {
+    Writing {
         words: INFER,
         document: "Prefix(:=<x:>) Ontology(Declaration(DataProperty(:d)) SubClassOf(:A :B) EquivalentClasses(:A :A))",
         status: 3,
@@ -75,7 +53,7 @@ const CASES: &[Case] = &[
         err: "F1 at byte 36: DataProperty\nF4 at byte 93\n",
         written: "",
     },
-    Case {
+    Writing {
         words: &["elc", "infer", "doc", "out", "--profile", "1"],
         document: "Prefix(:=<x:>) Ontology(SameIndividual(:a :b))",
         status: 3,
@@ -83,7 +61,7 @@ const CASES: &[Case] = &[
         err: "F1 at byte 24: SameIndividual\n",
         written: "",
     },
-    Case {
+    Writing {
         words: &["elc", "infer", "doc", "out", "--max-facts", "9"],
         document: GROUPS,
         status: 5,
@@ -91,7 +69,7 @@ const CASES: &[Case] = &[
         err: "limit: more than 9 facts\n",
         written: "",
     },
-    Case {
+    Writing {
         words: &["elc", "infer", "doc", "out", "--max-bytes", "9"],
         document: "Ontology()",
         status: 5,
@@ -99,7 +77,7 @@ const CASES: &[Case] = &[
         err: "limit: more than 9 bytes\n",
         written: "",
     },
-    Case {
+    Writing {
         words: &["elc", "infer", "none", "out"],
         document: "",
         status: 6,
@@ -112,11 +90,8 @@ const CASES: &[Case] = &[
 #[test]
 fn what_follows_is_written(rt: HostRuntime) -> Result<(), Fail> {
     for case in CASES {
-        let (run, written) = inferred_by(&rt, case.words, case.document.as_bytes())?;
-        let told = is_run(&run, case.status, case.out, case.err);
-        let same = written.as_slice() == case.written.as_bytes();
         let document = case.document;
-        assert!(rt; told && same, "{document}");
+        assert!(rt; is_written(&rt, case)?, "{document}");
     }
     Ok(())
 }
@@ -124,22 +99,15 @@ fn what_follows_is_written(rt: HostRuntime) -> Result<(), Fail> {
 /// What was inferred is a document of which the same is inferred.
 #[test]
 fn what_was_inferred_is_inferred_again(rt: HostRuntime) -> Result<(), Fail> {
-    let (run, written) = inferred_by(&rt, INFER, GROUPS_INFERRED.as_bytes())?;
+    let (run, written) = document_by(&rt, INFER, GROUPS_INFERRED)?;
     assert!(rt; run.status == 0);
     assert!(rt; written.as_slice() == GROUPS_INFERRED.as_bytes());
     Ok(())
 }
 
-/// Whether a run whose file cannot be written says so.
-fn is_unwritten<R: AllocGlobal + RandomSource>(rt: &R) -> Result<bool, Fail> {
-    let mut files = files_with(rt.alloc(), b"Ontology()")?;
-    files.lock();
-    let run = run_of(rt, INFER, &mut files)?;
-    Ok(is_run(&run, 6, "", "cannot write out\n"))
-}
-
 #[test]
 fn a_file_that_is_not_written_is_told(rt: HostRuntime) -> Result<(), Fail> {
-    assert!(rt; is_unwritten(&rt)?);
+    let unwritten = alone(&rt, INFER, b"Ontology()")?;
+    assert!(rt; is_run(&unwritten, 6, "", "cannot write out\n"));
     Ok(())
 }

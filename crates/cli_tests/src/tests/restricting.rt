@@ -2,32 +2,10 @@
 
 use super::*;
 
-/// A run, and what it wrote.
-fn restricted_by<R: AllocGlobal + RandomSource>(
-    rt: &R,
-    words: &[&str],
-    document: &[u8],
-) -> Result<(Run, Vec<u8>), Fail> {
-    let mut files = files_with(rt.alloc(), document)?;
-    let run = run_of(rt, words, &mut files)?;
-    let written = held(rt.alloc(), &files, "out")?;
-    Ok((run, written))
-}
-
-/// Words, a document, the status, what is printed, what is told, and what is written.
-struct Case {
-    words: &'static [&'static str],
-    document: &'static str,
-    status: u8,
-    out: &'static str,
-    err: &'static str,
-    written: &'static str,
-}
-
 const RESTRICT: &[&str] = &["elc", "restrict", "doc", "out"];
 
-const CASES: &[Case] = &[
-    Case {
+const CASES: &[Writing] = &[
+    Writing {
         words: RESTRICT,
         document: "Prefix(:=<x:>) Ontology(Declaration(DataProperty(:d)) SubClassOf(Annotation(rdfs:comment \"k\") :A ObjectIntersectionOf(:B :C)) EquivalentClasses(:A :A))",
         status: 0,
@@ -35,7 +13,7 @@ const CASES: &[Case] = &[
         err: "",
         written: "Ontology(\nSubClassOf(<x:A> ObjectIntersectionOf(<x:B> <x:C>))\n)\n",
     },
-    Case {
+    Writing {
         words: RESTRICT,
         document: "Ontology(",
         status: 3,
@@ -43,7 +21,7 @@ const CASES: &[Case] = &[
         err: "P2 at byte 9\n",
         written: "",
     },
-    Case {
+    Writing {
         words: &["elc", "restrict", "doc", "out", "--max-bytes", "9"],
         document: "Ontology()",
         status: 5,
@@ -51,7 +29,7 @@ const CASES: &[Case] = &[
         err: "limit: more than 9 bytes\n",
         written: "",
     },
-    Case {
+    Writing {
         words: &["elc", "restrict", "none", "out"],
         document: "",
         status: 6,
@@ -59,7 +37,7 @@ const CASES: &[Case] = &[
         err: "cannot read none\n",
         written: "",
     },
-    Case {
+    Writing {
         words: &["elc", "restrict", "doc", "out", "--profile", "1"],
         document: "Prefix(:=<x:>) Ontology(SameIndividual(:a :b) Declaration(Class(:A)))",
         status: 0,
@@ -72,25 +50,15 @@ const CASES: &[Case] = &[
 #[test]
 fn what_is_of_the_profile_is_written(rt: HostRuntime) -> Result<(), Fail> {
     for case in CASES {
-        let (run, written) = restricted_by(&rt, case.words, case.document.as_bytes())?;
-        let told = is_run(&run, case.status, case.out, case.err);
-        let same = written.as_slice() == case.written.as_bytes();
         let document = case.document;
-        assert!(rt; told && same, "{document}");
+        assert!(rt; is_written(&rt, case)?, "{document}");
     }
     Ok(())
 }
 
-/// Whether a run whose file cannot be written says so.
-fn is_unwritten<R: AllocGlobal + RandomSource>(rt: &R) -> Result<bool, Fail> {
-    let mut files = files_with(rt.alloc(), b"Ontology()")?;
-    files.lock();
-    let run = run_of(rt, RESTRICT, &mut files)?;
-    Ok(is_run(&run, 6, "", "cannot write out\n"))
-}
-
 #[test]
 fn a_file_that_is_not_written_is_told(rt: HostRuntime) -> Result<(), Fail> {
-    assert!(rt; is_unwritten(&rt)?);
+    let unwritten = alone(&rt, RESTRICT, b"Ontology()")?;
+    assert!(rt; is_run(&unwritten, 6, "", "cannot write out\n"));
     Ok(())
 }
