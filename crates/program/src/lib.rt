@@ -4,10 +4,12 @@
 
 mod limits;
 mod question;
+mod release;
 mod status;
 mod version;
 
 pub use limits::{Limits, MOST_BYTES, MOST_BYTES_TEXT, MOST_FACTS, MOST_FACTS_TEXT};
-pub use question::{Asked, Question, Related, Shown, Side};
+pub use question::{Asked, Question, Related, Shown, Side, Spelling};
+pub use release::VERSION;
 pub use status::Status;
 pub use version::Version;

@@ -38,6 +38,17 @@ pub struct Shown {
     pub graph: bool,
     /// Of a refutation those elements alone that pairs lead to from the one that refutes, and how many others there are; else all.
     pub reached: bool,
+    /// Behind the lines of a derivation the axioms that they cite.
+    pub axioms: bool,
+}
+
+/// How names are spelled in what is printed.
+#[derive(Clone, Copy, PartialEq, Eq)]
+pub enum Spelling {
+    /// As full IRIs, in angle brackets.
+    Full,
+    /// By the prefixes of the document, where reading them back gives the name; else in full.
+    Short,
 }
 
 /// What is asked. Names are IRIs without brackets.
@@ -49,6 +60,14 @@ pub enum Question<'n> {
     Groups(Side, &'n str),
     /// Whether what is asked of is in the class, and why, shown in that way.
     Why(Asked<'n>, &'n str, Shown),
+    /// The named classes that have no instance in any interpretation, but for owl:Nothing.
+    Unsatisfiable,
+    /// The named classes that the individual belongs to.
+    Types(&'n str),
+    /// Those of these that no other one lies strictly below, in groups of those that are the same.
+    DirectTypes(&'n str),
+    /// Which conditions that axioms state for the class what is asked of has, and which it lacks.
+    Lacks(Asked<'n>, &'n str),
 }
 
 impl Related {
