@@ -11,6 +11,7 @@ mod next;
 mod reading;
 mod token;
 
+pub use bytes::{is_local_name, is_prefix};
 pub use next::{next_token, only_separators};
 pub use reading::tokens;
 pub use token::{Kind, LexFault, Token};

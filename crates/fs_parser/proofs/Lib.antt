@@ -14,3 +14,4 @@ pub mod IriBytes
 pub mod SmallBytes
 pub mod Tokens
 pub mod TokenNames
+pub mod OwnedBases

@@ -14,6 +14,14 @@ pub struct Prefix<'a> {
     pub ghost spelled: { ∥ CanBeSpelled iri.now ∥₁ },
 }
 
+pub(crate) const RDF: &str = "http://www.w3.org/1999/02/22-rdf-syntax-ns#";
+
+pub(crate) const RDFS: &str = "http://www.w3.org/2000/01/rdf-schema#";
+
+pub(crate) const XSD: &str = "http://www.w3.org/2001/XMLSchema#";
+
+pub(crate) const OWL: &str = "http://www.w3.org/2002/07/owl#";
+
 /// The IRI of a prefix that is declared from the start.
 #[tactic(auto, unfolding(crate::specs::Name::standard_prefixes))]
 pub(crate) fn standard_iri(name: &str) -> Option<&'static str>
@@ -21,13 +29,13 @@ pub(crate) fn standard_iri(name: &str) -> Option<&'static str>
     ensures none { IfNone result ((iri : List ℕ) → Contains standard_prefixes (name.now, iri) → ⊥) }
 {
     if name == "rdf" {
-        Some("http://www.w3.org/1999/02/22-rdf-syntax-ns#")
+        Some(RDF)
     } else if name == "rdfs" {
-        Some("http://www.w3.org/2000/01/rdf-schema#")
+        Some(RDFS)
     } else if name == "xsd" {
-        Some("http://www.w3.org/2001/XMLSchema#")
+        Some(XSD)
     } else if name == "owl" {
-        Some("http://www.w3.org/2002/07/owl#")
+        Some(OWL)
     } else {
         None
     }

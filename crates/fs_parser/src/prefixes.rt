@@ -1,12 +1,12 @@
 //! Prefixes that own their texts.
 ghost use Rattle.std.specs.Prelude.{◌≡◌, ◌++◌, IfOk, map};
 ghost use Rattle.fs_parser.specs.KnownPrefixes.{known_of};
-ghost use Rattle.fs_parser.specs.Name.{StandForOne, StandForSpelled, standard_prefixes};
+ghost use Rattle.fs_parser.specs.Name.{CanBeSpelled, StandForOne, StandForSpelled, standard_prefixes};
 ghost use Rattle.fs_parser.specs.OwnedPrefixes.{owned_prefix};
 ghost use Rattle.fs_parser.specs.View.{prefix_of, prefixes_of_code};
 
 use crate::known::Known;
-use crate::prefix::Prefix;
+use crate::prefix::{OWL, Prefix, RDF, RDFS, XSD};
 use std::alloc::{AllocError, Global};
 use std::marker::Model;
 
@@ -33,6 +33,27 @@ impl Model for Prefixes {
     ghost view = { owned_prefixes };
 
     ghost invariant = { IsOwned };
+}
+
+/// A prefix with an IRI that can be spelled.
+fn standard<'a>(name: &'a str, iri: &'a str) -> Prefix<'a>
+    requires { ∥ CanBeSpelled iri.now ∥₁ }
+    ensures { prefix_of result ≡ (name.now, iri.now) }
+{
+    Prefix { name, iri }
+}
+
+/// The prefixes that are declared from the start.
+#[tactic(auto, unfolding(crate::specs::Name::standard_prefixes))]
+pub(crate) fn standard_list<'a>(alloc: Global) -> Result<Vec<Prefix<'a>>, AllocError>
+    ensures { IfOk result (λ v. prefixes_of_code v.items ≡ standard_prefixes) }
+{
+    let mut all = Vec::with_capacity(alloc, 4)?;
+    all.push(standard("rdf", RDF))?;
+    all.push(standard("rdfs", RDFS))?;
+    all.push(standard("xsd", XSD))?;
+    all.push(standard("owl", OWL))?;
+    Ok(all)
 }
 
 /// A copy of the prefix.
@@ -79,6 +100,20 @@ impl Prefixes {
         ensures { StandForSpelled self.now }
     {
         let _ = &self.declared;
+    }
+
+    /// These, one behind the other: the standard ones, and then those of the document in its order.
+    pub fn list(&self, alloc: Global) -> Result<Vec<Prefix<'_>>, AllocError>
+        ensures { IfOk result (λ v. prefixes_of_code v.items ≡ self.now) }
+    {
+        let mut all = standard_list(alloc)?;
+        for prefix in &self.declared {
+            all.push(Prefix {
+                name: prefix.name.as_str(),
+                iri: prefix.iri.as_str(),
+            })?;
+        }
+        Ok(all)
     }
 
     /// These, as a document that is read has them.
