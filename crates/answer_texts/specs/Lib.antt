@@ -1,7 +1,9 @@
 pub mod Names
 pub mod Axioms
 pub mod Proof
+pub mod Conditions
 pub mod Pairs
 pub mod Refutation
 pub mod Graphs
 pub mod Reached
+pub mod Cited

@@ -11,8 +11,12 @@ use axioms::{Memory, Ontology};
 use certificate::Line;
 use std::alloc::{AllocError, Global};
 
-/// Adds the bytes as they stand inside quotation marks.
-pub(crate) fn push_escaped(out: &mut Vec<u8>, bytes: &[u8]) -> Result<(), AllocError>
+/// Adds the bytes as they stand inside quotation marks of a graph. Where memory was refused nothing is said of what was added.
+///
+/// # Errors
+///
+/// `AllocError` where memory was refused.
+pub fn push_escaped(out: &mut Vec<u8>, bytes: &[u8]) -> Result<(), AllocError>
     ensures { OnOk result (out.new.items ≡ out.old.items ++ graphs.escaped bytes.now) }
 {
     for byte in bytes {

@@ -1,0 +1,3 @@
+pub mod FirstName
+pub mod Choosing
+pub mod Written

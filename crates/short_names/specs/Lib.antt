@@ -1,0 +1,4 @@
+pub mod ShortNames
+pub mod Spellings
+pub mod Found
+pub mod Theorems
