@@ -6,6 +6,7 @@ use Rattle.axioms.specs.Expression.{ClassExpression, Iri, Named}
 use Rattle.axioms.specs.Ontology.{Ontology, IsClassAt, nothing, name_at, individual_name, expression, axiom_trees}
 use Rattle.axioms.specs.WellFormedness.{AreDistinct, IsOntology}
 use Rattle.axioms.specs.declared.ids.ExprId.{ExprId}
+use Rattle.axioms.specs.declared.ids.IndId.{IndId}
 use Rattle.axioms.proofs.Trees.{class_tree}
 use Rattle.facts.specs.declared.contexts.Fact.{Fact}
 use Rattle.facts.specs.declared.contexts.Fact.TheVariants.{In}
@@ -19,14 +20,14 @@ use Rattle.normalise.specs.Problem.{prefixes_of}
 use Rattle.engine.specs.Saturations.{Saturated, IsSaturated}
 use Rattle.countermodel.proofs.Facts.{code_of, whole_said}
 use Rattle.classification.specs.Lists.{SomeFact}
-use Rattle.answers.specs.Selections.{Answers, AreGiven, FollowsFor, IsEvery, PutsExpression, PutsIndividual, expression_asked, names_asked}
+use Rattle.answers.specs.Selections.{Answers, AreGiven, FollowsFor, IsEvery, PutsExpression, PutsIndividual, context_asked, names_asked}
 use Rattle.answers.specs.Entailment.{LiesBelow, BelongsTo}
 use Rattle.answers.specs.Explanations.{IsClassNamed}
 use Rattle.answers.specs.Neighbours.{AreMarksAmong}
 use Rattle.answers.specs.Names.{AreThose, IsMarked}
 use Rattle.answers.specs.declared.selection.Selection.{Selection}
-use Rattle.answers.specs.declared.selection.Selection.TheVariants.{Above, Below, Members}
-use Rattle.answers.proofs.Deriving.{named_tree}
+use Rattle.answers.specs.declared.selection.Selection.TheVariants.{Above, Below, Members, Types}
+use Rattle.answers.proofs.Deriving.{named_tree, root_subject}
 use Rattle.classification.proofs.Following.{below_by_facts, members_by_facts}
 use Rattle.answers.proofs.Naming.{those_same}
 
@@ -73,6 +74,13 @@ module _ (o : Ontology) (w : IsOntology o) (s : Saturated) (h : IsSaturated o s)
             (λ fact. (let v = here.1 fact in (v.0, v.1, v.2, (f, class, inl v.3)))) is,
       )
 
+  class_by_fact : (a : IndId) (n f : ℕ) → IsClassAt o n f → SomeFact s.state.facts (λ fact. Answers o (Types a) fact n) ↔ IsFact o asked (closure.In (Whole f) (Individual a.0))
+  class_by_fact a n f class =
+      let here = individual_in a.0 f in (
+        λ v. here.0 (v.0, v.1, v.2, subst (λ m. PutsIndividual v.1 a.0 m) (one_expression n v.3.0 f v.3.1 class) v.3.2),
+        λ is. (let v = here.1 is in (v.0, v.1, v.2, (f, class, v.3))),
+      )
+
   module _ (e : ExprId) (root : IsRoot o asked (Expression e.0)) where
     above_answers : (n : ℕ) → n < length o.names.classes
         → (IsEvery o s (Above e) ⊎ SomeFact s.state.facts (λ fact. Answers o (Above e) fact n)) ↔ FollowsFor o (Above e) (name_at o.names.classes n)
@@ -110,13 +118,25 @@ module _ (o : Ontology) (w : IsOntology o) (s : Saturated) (h : IsSaturated o s)
           λ follows. ⊎_elim (λ none. inl none) (λ p. inr (here.1 p)) (by.0 follows),
         )
 
-  answer_follows : (q : Selection) → IsRoot o asked (Expression (expression_asked q)) → (n : ℕ) → n < length (names_asked o q)
+  class_answers : (a : IndId) → a.0 < length o.names.individuals → (n : ℕ) → n < length o.names.classes
+      → (IsEvery o s (Types a) ⊎ SomeFact s.state.facts (λ fact. Answers o (Types a) fact n)) ↔ FollowsFor o (Types a) (name_at o.names.classes n)
+  class_answers a within n low =
+      let (f, class) = w.class_nodes n low in
+      let by = members_by_facts o w s h a.0 f within (IsRoot.named n f class) in
+      let here = class_by_fact a n f class in
+      let named = class_tree o n f class in (
+        λ v. subst (IsMember (axiom_trees o) (individual_name o a.0)) named (by.1 (⊎_elim (λ none. inl none) (λ p. inr (here.0 p)) v)),
+        λ follows. ⊎_elim (λ none. inl none) (λ fact. inr (here.1 fact)) (by.0 (subst (IsMember (axiom_trees o) (individual_name o a.0)) (sym named) follows)),
+      )
+
+  answer_follows : (q : Selection) → IsRoot o asked (context_asked q) → (n : ℕ) → n < length (names_asked o q)
       → (IsEvery o s q ⊎ SomeFact s.state.facts (λ fact. Answers o q fact n)) ↔ FollowsFor o q (name_at (names_asked o q) n)
   answer_follows (Above e) root n low = above_answers e root n low
   answer_follows (Below e) root n low = below_answers e root n low
   answer_follows (Members e) root n low = member_answers e root n low
+  answer_follows (Types a) root n low = class_answers a (root_subject o asked (Individual a.0) root) n low
 
-  module _ (q : Selection) (root : IsRoot o asked (Expression (expression_asked q))) (marks : List Bool) (long : length marks ≡ length (names_asked o q)) where
+  module _ (q : Selection) (root : IsRoot o asked (context_asked q)) (marks : List Bool) (long : length marks ≡ length (names_asked o q)) where
     follows_at : (n : ℕ) → IsMarked marks n → (IsEvery o s q ⊎ SomeFact s.state.facts (λ fact. Answers o q fact n)) ↔ FollowsFor o q (name_at (names_asked o q) n)
     follows_at n there = answer_follows q root n (subst (λ (k : ℕ). n < k) long (has_within marks n there))
 
@@ -142,6 +162,7 @@ pub asked_apart : (o : Ontology) → IsOntology o → (q : Selection) → AreDis
 asked_apart o w (Above e) = w.distinct_classes
 asked_apart o w (Below e) = w.distinct_classes
 asked_apart o w (Members e) = w.distinct_individuals
+asked_apart o w (Types a) = w.distinct_classes
 
 -- ---- a class by its name
 

@@ -1,5 +1,5 @@
 -- What has a number is known.
-use Rattle.std.proofs.Common.{◌≡◌, ◌∷◌, ◌↔◌, [], true, false, ℕ, List, Option, Some, None, Contains, IsSome, arith, refl, subst, sym}
+use Rattle.std.proofs.Common.{◌≡◌, ◌∷◌, ◌↔◌, [], true, false, ℕ, Option, Some, None, Contains, IsSome, arith, refl, subst, sym}
 use Rattle.std.specs.List.{All}
 use Rattle.std.proofs.lemmas.List.Elements.{All-cons, All-contains, All-nil}
 use Rattle.lemmas.proofs.Members.{Contains-from_slice_get}
@@ -8,7 +8,7 @@ use Rattle.axioms.specs.Ontology.{Ontology}
 use Rattle.closure.specs.Closure.{Context, Expression}
 use Rattle.closure.specs.Closure as closure
 use Rattle.answers.specs.Explanations.{IsAbout, IsClassNamed, IsKnown}
-use Rattle.answers.specs.Questions.{HasName, class_name, subject_name}
+use Rattle.answers.specs.Questions.{HasName, class_name, individual_name, subject_name}
 use Rattle.program.specs.declared.question.Asked.{Asked}
 use Rattle.program.specs.declared.question.Asked.TheVariants as asked
 
@@ -35,6 +35,10 @@ two_of P x y = (
 -- of a question about a class
 pub class_is_known : (o : Ontology) (class : Iri) → Contains o.names.classes class ↔ All (HasName o) (class_name class ∷ [])
 class_is_known o class = one_of (HasName o) (class_name class)
+
+-- of one about an individual
+pub individual_is_known : (o : Ontology) (individual : Iri) → Contains o.names.individuals individual ↔ All (HasName o) (individual_name individual ∷ [])
+individual_is_known o individual = one_of (HasName o) (individual_name individual)
 
 -- of one about what is in a class
 pub both_are_known : (o : Ontology) (a : Asked) (class : Iri) → (IsKnown o a × Contains o.names.classes class) ↔ All (HasName o) (subject_name a ∷ class_name class ∷ [])

@@ -18,3 +18,9 @@ pub mod ListedBelow
 pub mod NamedSides
 pub mod Parting
 pub mod Lent
+pub mod Stating
+pub mod Giving
+pub mod LeftFollowing
+pub mod Having
+pub mod Typing
+pub mod Unsatisfying

@@ -14,7 +14,7 @@ use Rattle.classification.specs.Lists.{SomeFact}
 use Rattle.answers.specs.Selections.{Answers, AreGiven, IsOnly, MayAnswer}
 use Rattle.answers.specs.Names.{IsMarked}
 use Rattle.answers.specs.declared.selection.Selection.{Selection}
-use Rattle.answers.specs.declared.selection.Selection.TheVariants.{Above, Below, Members}
+use Rattle.answers.specs.declared.selection.Selection.TheVariants.{Above, Below, Members, Types}
 
 -- one of the first k steps gives the number
 abbrev pub GivenBefore : (ℕ → ℕ → Type 0) → ℕ → ℕ → Type 0
@@ -147,3 +147,4 @@ pub may_answer : (o : Ontology) (q : Selection) (f : Fact) (n : ℕ) → Answers
 may_answer o (Above e) f n (h, class, puts) = subst (IsIn (contexts.Expr e)) (sym puts) refl
 may_answer o (Below e) f n given = tt
 may_answer o (Members e) f n given = tt
+may_answer o (Types a) f n (h, class, puts) = subst (IsIn (contexts.Individual a)) (sym puts) refl

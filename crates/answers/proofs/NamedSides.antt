@@ -1,7 +1,8 @@
 -- Marks on the classes above and below a class, by its name.
 use Rattle.std.proofs.Common.{◌≡◌, ◌↔◌, ℕ, Bool, ◌&&◌, not, List, length, sym, subst}
-use Rattle.axioms.specs.Expression.{ClassExpression, Iri, Named}
-use Rattle.axioms.specs.Ontology.{Ontology, axiom_trees, expression}
+use Rattle.axioms.specs.Expression.{ClassExpression, Iri, Named, owl_nothing}
+use Rattle.axioms.specs.Ontology.{Ontology, axiom_trees, expression, nothing}
+use Rattle.axioms.specs.WellFormedness.{IsOntology}
 use Rattle.axioms.specs.declared.ids.ExprId.{ExprId}
 use Rattle.interpretation_spec.specs.Interpretation.{IsBelow}
 use Rattle.number_sets.specs.Members.{has}
@@ -55,3 +56,11 @@ module _ (o : Ontology) (class : Iri) (e : ExprId) (named : IsClassNamed o class
         → ((n : ℕ) → has left n ≡ (has marks n && not (has others n))) → AreMarksOf o.names.classes (IsNearer o sides.Below class) left
     strictly_below are others_are each = marks_apart o.names.classes under over marks others left
         (marks_same o.names.classes (FollowsFor o (Below e)) under below_is marks are) (among_same o.names.classes (FollowsFor o (Above e)) over above_is marks others others_are) long each
+
+-- ---- below owl:Nothing
+
+abbrev pub nothing_id : ExprId
+nothing_id = record { 0 = nothing }
+
+pub below_nothing_is : (o : Ontology) → IsOntology o → (name : Iri) → FollowsFor o (Below nothing_id) name ↔ LiesBelow o name owl_nothing
+below_nothing_is o w = below_is o owl_nothing nothing_id (1, w.nothing_node, w.nothing_name)

@@ -1,7 +1,7 @@
--- The classes next to a class, in groups of those that are the same.
+-- The classes next to a class or to an individual, in groups of those that are the same.
 use Rattle.std.specs.Prelude.{◌≡◌, ◌↔◌, ℕ, ◌<◌, List, Bool, true, false, length, map, slice_get, Some}
 use Rattle.std.specs.List.{Contains}
-use Rattle.answers.specs.Entailment.{LiesBelow}
+use Rattle.answers.specs.Entailment.{BelongsTo, LiesBelow}
 use Rattle.answers.specs.Names.{AreInByteOrder, AreThose, IsMarked}
 use Rattle.program.specs.declared.question.Side.{Side}
 use Rattle.program.specs.declared.question.Side.TheVariants.{Above, Below}
@@ -23,6 +23,11 @@ LiesStrictlyBelow o c d = LiesBelow o c d × (LiesBelow o d c → ⊥)
 pub record LiesDirectlyBelow (o : Ontology) (c d : Iri) : Type 0 where
   pub strictly : LiesStrictlyBelow o c d
   pub next : (e : Iri) → Contains o.names.classes e → LiesStrictlyBelow o c e → LiesStrictlyBelow o e d → ⊥
+
+-- the individual belongs to the class, and to no named class that lies strictly below it
+pub record IsDirectType (o : Ontology) (individual class : Iri) : Type 0 where
+  pub belongs : BelongsTo o individual class
+  pub next : (e : Iri) → Contains o.names.classes e → BelongsTo o individual e → LiesStrictlyBelow o e class → ⊥
 
 -- the first of the names
 abbrev pub first_of : List Iri → Iri

@@ -1,8 +1,9 @@
--- What facts answer about a class expression, and what follows about it.
+-- What facts answer about a class expression or an individual, and what follows about it.
 use Rattle.std.specs.Prelude.{◌≡◌, ◌↔◌, ◌⊎◌, ℕ, List, Bool, length, Option, Some}
 use Rattle.axioms.specs.Expression.{Iri, Named}
-use Rattle.axioms.specs.Ontology.{Ontology, IsClassAt, nothing, expression, axiom_trees}
+use Rattle.axioms.specs.Ontology.{Ontology, IsClassAt, nothing, expression, individual_name, axiom_trees}
 use Rattle.classification.specs.Lists.{SomeFact}
+use Rattle.closure.specs.Closure.{Context, Expression, Individual}
 use Rattle.engine.specs.Saturations.{Saturated}
 use Rattle.exactness.specs.ListedInterpretation.{IsConsistent}
 use Rattle.facts.specs.declared.contexts.Context.TheVariants as contexts
@@ -13,25 +14,28 @@ use Rattle.interpretation_spec.specs.Interpretation.{IsBelow, IsMember}
 use Rattle.normal_forms.specs.declared.forms.Class2.TheVariants.{Expr}
 use Rattle.answers.specs.Names.{IsMarked}
 use Rattle.answers.specs.declared.selection.Selection.{Selection}
-use Rattle.answers.specs.declared.selection.Selection.TheVariants.{Above, Below, Members}
+use Rattle.answers.specs.declared.selection.Selection.TheVariants.{Above, Below, Members, Types}
 
--- the number of the expression that is asked about
-abbrev pub expression_asked : Selection → ℕ
-expression_asked (Above e) = e.0
-expression_asked (Below e) = e.0
-expression_asked (Members e) = e.0
+-- the expression or the individual that is asked about
+abbrev pub context_asked : Selection → Context
+context_asked (Above e) = Expression e.0
+context_asked (Below e) = Expression e.0
+context_asked (Members e) = Expression e.0
+context_asked (Types a) = Individual a.0
 
 -- the names among which the answers are
 abbrev pub names_asked : Ontology → Selection → List Iri
 names_asked o (Above e) = o.names.classes
 names_asked o (Below e) = o.names.classes
 names_asked o (Members e) = o.names.individuals
+names_asked o (Types a) = o.names.classes
 
 -- the name is an answer in every finite interpretation of the axioms
 abbrev pub FollowsFor : Ontology → Selection → Iri → Type 0
 FollowsFor o (Above e) name = IsBelow (axiom_trees o) (expression o e.0) (Named name)
 FollowsFor o (Below e) name = IsBelow (axiom_trees o) (Named name) (expression o e.0)
 FollowsFor o (Members e) name = IsMember (axiom_trees o) name (expression o e.0)
+FollowsFor o (Types a) name = IsMember (axiom_trees o) (individual_name o a.0) (Named name)
 
 -- ---- by facts
 
@@ -44,17 +48,19 @@ abbrev pub PutsIndividual : Fact → ℕ → ℕ → Type 0
 PutsIndividual fact a f = fact ≡ In (Expr (record { 0 = f })) (contexts.Individual (record { 0 = a }))
 
 -- the fact answers the question with this number: of a class that the expression is put in, or that is put in the expression or in
--- owl:Nothing, or of an individual that is put in the expression
+-- owl:Nothing, of an individual that is put in the expression, or of a class that the individual is put in
 abbrev pub Answers : Ontology → Selection → Fact → ℕ → Type 0
 Answers o (Above e) fact n = (f : ℕ) × IsClassAt o n f × PutsExpression fact e.0 f
 Answers o (Below e) fact n = (f : ℕ) × IsClassAt o n f × (PutsExpression fact f e.0 ⊎ PutsExpression fact f nothing)
 Answers o (Members e) fact n = PutsIndividual fact n e.0
+Answers o (Types a) fact n = (f : ℕ) × IsClassAt o n f × PutsIndividual fact a.0 f
 
--- such facts alone may answer it: those that put a class into the expression that is asked about, or any
+-- such facts alone may answer it: those that put a class into the expression or the individual that is asked about, or any
 abbrev pub MayAnswer : Selection → Fact → Type 0
 MayAnswer (Above e) fact = IsIn (contexts.Expr e) fact
 MayAnswer (Below e) fact = Unit {0}
 MayAnswer (Members e) fact = Unit {0}
+MayAnswer (Types a) fact = IsIn (contexts.Individual a) fact
 
 -- the number is the only one that is given, or none is
 abbrev pub IsOnly : (ℕ → Type 0) → Option ℕ → Type 0
@@ -69,6 +75,7 @@ abbrev pub IsEvery : Ontology → Saturated → Selection → Type 0
 IsEvery o s (Above e) = (IsConsistent o s.normal.asked → ⊥) ⊎ SomeFact s.state.facts (λ fact. PutsExpression fact e.0 nothing)
 IsEvery o s (Below e) = IsConsistent o s.normal.asked → ⊥
 IsEvery o s (Members e) = IsConsistent o s.normal.asked → ⊥
+IsEvery o s (Types a) = IsConsistent o s.normal.asked → ⊥
 
 -- of the marked numbers, others are on exactly those that some fact gives; of numbers without a mark it says nothing
 pub record AreGiven (gives : Fact → ℕ → Type 0) (facts : List Fact) (marks others : List Bool) : Type 0 where

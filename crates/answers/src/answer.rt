@@ -1,5 +1,6 @@
 //! What is answered.
 
+use crate::condition::Lacking;
 use crate::explanation::Explanation;
 
 /// The answer to a question. Names are IRIs without brackets, in byte order.
@@ -11,4 +12,6 @@ pub enum Answer<'a> {
     Groups(Vec<Vec<&'a str>>),
     /// Whether what was asked of is in the class, and why.
     Why(Explanation),
+    /// What what was asked of lacks to be in the class.
+    Lacks(Lacking),
 }

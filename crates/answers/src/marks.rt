@@ -1,11 +1,11 @@
 //! Marks on the numbers that facts answer with.
 ghost use Rattle.answers.specs.Names.{IsMarked};
 ghost use Rattle.answers.specs.Neighbours.{AreMarksAmong, AreMarksOf};
-ghost use Rattle.answers.specs.Selections.{Answers, AreGiven, FollowsFor, IsAnswer, IsEvery, MayAnswer, PutsExpression, PutsIndividual, expression_asked, names_asked};
+ghost use Rattle.answers.specs.Selections.{Answers, AreGiven, FollowsFor, IsAnswer, IsEvery, MayAnswer, PutsExpression, PutsIndividual, context_asked, names_asked};
 ghost use Rattle.answers.specs.declared.selection.Selection.TheVariants as asked;
 ghost use Rattle.axioms.specs.Ontology.{nothing};
 ghost use Rattle.classification.specs.Lists.{SomeFact};
-ghost use Rattle.closure.specs.Closure.{Expression, IsRoot};
+ghost use Rattle.closure.specs.Closure.{IsRoot};
 ghost use Rattle.saturate.specs.ServedFacts.{AreNumbersOf};
 ghost use Rattle.std.specs.Prelude.{◌<◌, ◌≤◌, ◌^◌, ◌↔◌, ◌≡◌, ◌⊎◌, IfOk, IfSome, IsTrue, MatchOption, Some, length, ℕ};
 
@@ -79,6 +79,19 @@ fn member(ontology: &Ontology, expression: ExprId, fact: &StoredFact) -> Option<
     }
 }
 
+/// The class that the individual is in by the fact.
+fn class_of(ontology: &Ontology, individual: IndId, fact: &StoredFact) -> Option<usize>
+    ensures { IsAnswer ontology.now (asked.Types individual) fact.now result }
+{
+    let (member, expression) = individual_pair(fact)?;
+    if member == individual {
+        let class = ontology.class_of(expression)?;
+        Some(class.index())
+    } else {
+        None
+    }
+}
+
 /// The number that the fact answers the question with.
 // A call for each fact would double what it costs to go over all.
 #[inline(always)]
@@ -89,6 +102,7 @@ fn answer(ontology: &Ontology, question: Selection, fact: &StoredFact) -> Option
         Selection::Above(expression) => above(ontology, expression, fact),
         Selection::Below(expression) => below(ontology, expression, fact),
         Selection::Members(expression) => member(ontology, expression, fact),
+        Selection::Types(individual) => class_of(ontology, individual, fact),
     }
 }
 
@@ -145,6 +159,7 @@ fn asked_facts<'a>(indexed: &Indexed<'a>, question: Selection) -> Option<&'a [u3
 {
     match question {
         Selection::Above(expression) => Some(indexed.classes_in(Context::Expr(expression))),
+        Selection::Types(individual) => Some(indexed.classes_in(Context::Individual(individual))),
         Selection::Below(_) | Selection::Members(_) => None,
     }
 }
@@ -173,7 +188,7 @@ fn is_every(indexed: &Indexed<'_>, question: Selection) -> bool
     }
     match question {
         Selection::Above(expression) => is_empty(indexed, expression),
-        Selection::Below(_) | Selection::Members(_) => false,
+        Selection::Below(_) | Selection::Members(_) | Selection::Types(_) => false,
     }
 }
 
@@ -207,6 +222,16 @@ fn is_found_member(indexed: &Indexed<'_>, expression: ExprId, number: u32) -> bo
     indexed.find(wanted).is_some()
 }
 
+/// Whether a fact puts the individual in the class of that number.
+fn is_found_class(indexed: &Indexed<'_>, individual: IndId, number: u32) -> bool
+    ensures { IsTrue result ↔ SomeFact indexed.now.saturation.state.facts (λ fact. Answers indexed.now.ontology (asked.Types individual) fact number) }
+{
+    match class_numbered(indexed, number) {
+        Some(class) => is_found_member(indexed, class, individual.0),
+        None => false,
+    }
+}
+
 /// Whether a fact answers the question with the number.
 fn is_found(indexed: &Indexed<'_>, question: Selection, number: u32) -> bool
     ensures { IsTrue result ↔ SomeFact indexed.now.saturation.state.facts (λ fact. Answers indexed.now.ontology question fact number) }
@@ -215,6 +240,7 @@ fn is_found(indexed: &Indexed<'_>, question: Selection, number: u32) -> bool
         Selection::Above(expression) => is_found_above(indexed, expression, number),
         Selection::Below(expression) => is_found_below(indexed, expression, number),
         Selection::Members(expression) => is_found_member(indexed, expression, number),
+        Selection::Types(individual) => is_found_class(indexed, individual, number),
     }
 }
 
@@ -276,7 +302,7 @@ pub(crate) fn marks_among(
     question: Selection,
     marks: &Row,
 ) -> Result<Row, Memory>
-    requires root { IsRoot indexed.now.ontology indexed.now.saturation.normal.asked (Expression (expression_asked question)) }
+    requires root { IsRoot indexed.now.ontology indexed.now.saturation.normal.asked (context_asked question) }
     requires long { length marks.now ≡ length (names_asked indexed.now.ontology question) }
     ensures { IfOk result (λ v. AreMarksAmong marks.now (names_asked indexed.now.ontology question) (FollowsFor indexed.now.ontology question) v) }
 {
@@ -293,7 +319,7 @@ fn count_asked(ontology: &Ontology, question: Selection) -> usize
     ensures { result ≡ length (names_asked ontology.now question) }
 {
     match question {
-        Selection::Above(_) | Selection::Below(_) => ontology.classes().len(),
+        Selection::Above(_) | Selection::Below(_) | Selection::Types(_) => ontology.classes().len(),
         Selection::Members(_) => ontology.individuals().len(),
     }
 }
@@ -304,7 +330,7 @@ fn count_asked(ontology: &Ontology, question: Selection) -> usize
 ///
 /// `Memory` where memory was refused.
 pub(crate) fn marks_of(indexed: &Indexed<'_>, question: Selection) -> Result<Row, Memory>
-    requires root { IsRoot indexed.now.ontology indexed.now.saturation.normal.asked (Expression (expression_asked question)) }
+    requires root { IsRoot indexed.now.ontology indexed.now.saturation.normal.asked (context_asked question) }
     ensures { IfOk result (λ v. AreMarksOf (names_asked indexed.now.ontology question) (FollowsFor indexed.now.ontology question) v) }
 {
     let closed = indexed.closed();

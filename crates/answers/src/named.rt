@@ -44,7 +44,8 @@ pub(crate) fn class_named(indexed: &Indexed<'_>, name: &str) -> Option<ExprId>
     class_numbered(indexed, number)
 }
 
-fn individual_named(indexed: &Indexed<'_>, name: &str) -> Option<IndId>
+/// The individual of that name, by its number.
+pub(crate) fn individual_named(indexed: &Indexed<'_>, name: &str) -> Option<IndId>
     ensures { MatchOption result (Contains indexed.now.ontology.names.individuals name.now → ⊥)
         (λ a. slice_get indexed.now.ontology.names.individuals a.0 ≡ Some name.now) }
 {

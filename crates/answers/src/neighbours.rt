@@ -20,7 +20,7 @@ use program::Side;
 use std::alloc::Global;
 
 /// The named classes that are marked, in byte order.
-fn classes_marked<'a>(indexed: &Indexed<'a>, marks: &Row) -> Result<Vec<&'a str>, Memory>
+pub(crate) fn classes_marked<'a>(indexed: &Indexed<'a>, marks: &Row) -> Result<Vec<&'a str>, Memory>
     ensures { IfOk result
         (λ v. AreThose indexed.now.ontology.names.classes (HasMark indexed.now.ontology.names.classes marks.now) (map (λ s. s.now) v.items)) }
 {
@@ -52,7 +52,7 @@ fn marks_strictly_below(indexed: &Indexed<'_>, class: ExprId) -> Result<Row, Mem
 }
 
 /// The groups of the nearest of the marked classes.
-fn nearest_groups<'a>(
+pub(crate) fn nearest_groups<'a>(
     indexed: &Indexed<'a>,
     mut marks: Row,
     side: Side,
@@ -74,7 +74,7 @@ fn nearest_groups<'a>(
 }
 
 /// One group of the marked classes, or none where there are none.
-fn one_group<'a>(indexed: &Indexed<'a>, marks: &Row) -> Result<Vec<Vec<&'a str>>, Memory>
+pub(crate) fn one_group<'a>(indexed: &Indexed<'a>, marks: &Row) -> Result<Vec<Vec<&'a str>>, Memory>
     requires { AreOneGroup indexed.now.ontology marks.now }
     ensures { IfOk result (λ v. AreGroups indexed.now.ontology (HasMark indexed.now.ontology.names.classes marks.now) (groups_in v.items)) }
 {

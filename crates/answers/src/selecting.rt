@@ -1,7 +1,7 @@
-//! The names that are selected by an expression.
-ghost use Rattle.answers.specs.Selections.{FollowsFor, expression_asked, names_asked};
+//! The names that are selected by an expression or an individual.
+ghost use Rattle.answers.specs.Selections.{FollowsFor, context_asked, names_asked};
 ghost use Rattle.answers.specs.Names.{AreThose};
-ghost use Rattle.closure.specs.Closure.{Expression, IsRoot};
+ghost use Rattle.closure.specs.Closure.{IsRoot};
 ghost use Rattle.std.specs.Prelude.{◌≡◌, IfOk, map, string_bytes};
 
 use crate::marks::marks_of;
@@ -10,9 +10,9 @@ use crate::selection::Selection;
 use axioms::Memory;
 use engine::Indexed;
 
-/// The names that stand so to an expression that is a named class or is asked about in the saturation, in byte order. In
-/// an ontology that no finite interpretation has, these are all names. The names are those of the ontology's classes, or of its
-/// individuals.
+/// The names that stand so to an expression that is a named class or is asked about in the saturation, or to an individual, in byte
+/// order. In an ontology that no finite interpretation has, these are all names. The names are those of the ontology's classes, or of
+/// its individuals.
 ///
 /// # Errors
 ///
@@ -22,7 +22,7 @@ pub fn selected<'a>(
     indexed: &Indexed<'_>,
     selection: Selection,
 ) -> Result<Vec<&'a str>, Memory>
-    requires root { IsRoot indexed.now.ontology indexed.now.saturation.normal.asked (Expression (expression_asked selection)) }
+    requires root { IsRoot indexed.now.ontology indexed.now.saturation.normal.asked (context_asked selection) }
     requires names { map string_bytes names.now ≡ names_asked indexed.now.ontology selection }
     ensures { IfOk result
         (λ v. AreThose (names_asked indexed.now.ontology selection) (FollowsFor indexed.now.ontology selection) (map (λ s. s.now) v.items)) }

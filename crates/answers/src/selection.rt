@@ -1,8 +1,8 @@
-//! What can be asked about a class expression.
+//! What can be asked about a class expression or an individual.
 
-use axioms::ExprId;
+use axioms::{ExprId, IndId};
 
-/// What is asked about a class expression, by its number in an ontology.
+/// What is asked about a class expression or an individual, by its number in an ontology.
 #[derive(Clone, Copy, Debug, PartialEq, Eq)]
 pub enum Selection {
     /// Which named classes lie above it.
@@ -11,4 +11,6 @@ pub enum Selection {
     Below(ExprId),
     /// Which individuals are members of it.
     Members(ExprId),
+    /// Which named classes the individual belongs to.
+    Types(IndId),
 }

@@ -1,7 +1,7 @@
 use Rattle.std.proofs.Common.{◌≡◌, ◌↔◌, List, ℕ, Option, IfSome, false, map, subst, sym, true}
 use Rattle.std.specs.Borrow.{Bor}
 use Rattle.std.specs.Global.{Vec}
-use Rattle.answers.proofs.Knowing.{both_are_known, class_is_known, none_known, some_known}
+use Rattle.answers.proofs.Knowing.{both_are_known, class_is_known, individual_is_known, none_known, some_known}
 use Rattle.answers.specs.Questions.{AreKnown, AreRelated, IsAnswerTo}
 use Rattle.answers.specs.declared.answer.Answer.TheVariants as answers
 use Rattle.program.specs.declared.question.Question.{Question}
@@ -30,3 +30,22 @@ returns-in-Some-3-clause-known c =
     let o = c.args.indexed.now.ontology in
     let known = c.in_ok-explanation-in-Why.ensures.known in
     subst (λ (q : Question). (true ≡ true) ↔ AreKnown o q) (sym c.in-Why.is) (some_known c.in_ok-explanation-in-Why.field-0 c.in-Some-3.explanation c.in-Some-3.is (both_are_known o c.in-Why.asked c.in-Why.class.now) known)
+
+pub returns-in-None-4-clause-known : goal.returns-in-None-4-clause-known
+returns-in-None-4-clause-known c =
+    let o = c.args.indexed.now.ontology in
+    let known = c.in_ok-names-in-Types.ensures.known in
+    subst (λ (q : Question). (false ≡ true) ↔ AreKnown o q) (sym c.in-Types.is) (none_known c.in_ok-names-in-Types.field-0 c.in-None-4.is (individual_is_known o c.in-Types.individual.now) known)
+
+pub returns-in-None-5-clause-known : goal.returns-in-None-5-clause-known
+returns-in-None-5-clause-known c =
+    let o = c.args.indexed.now.ontology in
+    let known = c.in_ok-groups-in-DirectTypes.ensures.known in
+    subst (λ (q : Question). (false ≡ true) ↔ AreKnown o q) (sym c.in-DirectTypes.is)
+    (none_known c.in_ok-groups-in-DirectTypes.field-0 c.in-None-5.is (individual_is_known o c.in-DirectTypes.individual.now) known)
+
+pub returns-in-Some-6-clause-known : goal.returns-in-Some-6-clause-known
+returns-in-Some-6-clause-known c =
+    let o = c.args.indexed.now.ontology in
+    let known = c.in_ok-lacking-in-Lacks.ensures.known in
+    subst (λ (q : Question). (true ≡ true) ↔ AreKnown o q) (sym c.in-Lacks.is) (some_known c.in_ok-lacking-in-Lacks.field-0 c.in-Some-6.lacking c.in-Some-6.is (both_are_known o c.in-Lacks.asked c.in-Lacks.class.now) known)

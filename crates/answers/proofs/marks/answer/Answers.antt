@@ -11,3 +11,6 @@ returns-in-Below c = subst (λ (q : Selection). IsAnswer c.args.ontology.now q c
 
 pub returns-in-Members : goal.returns-in-Members
 returns-in-Members c = subst (λ (q : Selection). IsAnswer c.args.ontology.now q c.args.fact.now c.member.result) (sym c.in-Members.is) c.member.ensures
+
+pub returns-in-Types : goal.returns-in-Types
+returns-in-Types c = subst (λ (q : Selection). IsAnswer c.args.ontology.now q c.args.fact.now c.class_of.result) (sym c.in-Types.is) c.class_of.ensures

@@ -4,7 +4,6 @@ use Rattle.std.proofs.lemmas.Result.{IfOk-weaker}
 use Rattle.axioms.specs.Expression.{owl_nothing}
 use Rattle.axioms.specs.Ontology.{Ontology, nothing}
 use Rattle.axioms.specs.WellFormedness.{IsOntology}
-use Rattle.axioms.specs.declared.ids.ExprId.{ExprId}
 use Rattle.closure.specs.Closure.{IsRoot}
 use Rattle.answers.specs.Entailment.{LiesBelow}
 use Rattle.answers.specs.Names.{groups_in}
@@ -12,15 +11,12 @@ use Rattle.answers.specs.Neighbours.{AreMarksAmong}
 use Rattle.answers.specs.Selections.{FollowsFor}
 use Rattle.answers.specs.declared.selection.Selection.TheVariants.{Below}
 use Rattle.answers.proofs.Lent.{whole_ontology}
-use Rattle.answers.proofs.NamedSides.{below_is}
+use Rattle.answers.proofs.NamedSides.{below_nothing_is, nothing_id}
 use Rattle.answers.proofs.Neighbouring.{among_same, children_are, lone_children_are, one_group_below, satisfiable_below}
 use Rattle.answers.proofs.neighbours.groups_below.Goals as goal
 
-abbrev nothing_id : ExprId
-nothing_id = record { 0 = nothing }
-
 empty_are : (o : Ontology) → IsOntology o → (marks empty : List Bool) → AreMarksAmong marks o.names.classes (FollowsFor o (Below nothing_id)) empty → AreMarksAmong marks o.names.classes (λ name. LiesBelow o name owl_nothing) empty
-empty_are o w marks empty are = among_same o.names.classes (FollowsFor o (Below nothing_id)) (λ name. LiesBelow o name owl_nothing) (below_is o owl_nothing nothing_id (1, w.nothing_node, w.nothing_name)) marks empty are
+empty_are o w marks empty are = among_same o.names.classes (FollowsFor o (Below nothing_id)) (λ name. LiesBelow o name owl_nothing) (below_nothing_is o w) marks empty are
 
 pub marks_among-requires-clause-root : goal.marks_among-requires-clause-root
 marks_among-requires-clause-root c = IsRoot.named 1 nothing (whole_ontology c.closed.ensures c.well_formed-2.ensures.ontology).nothing_node
