@@ -1,0 +1,24 @@
+//! The program `elcheck`: checks what was said of an ontology, with nothing of the engine that found it.
+#![tactic(auto)]
+
+use device::WriterSink;
+use receiving::start;
+use std::hash::RandomState;
+use std::process::ExitCode;
+use std::{env, io};
+use system_files::SystemFiles;
+
+fn words(rt: &HostRuntime) -> io::Result<Vec<String>> {
+    Ok(env::args(rt)?.collect(rt.alloc())?)
+}
+
+fn main(rt: HostRuntime) -> ExitCode {
+    start(
+        rt.alloc(),
+        words(&rt),
+        RandomState::new(&rt),
+        &mut SystemFiles::new(&rt, rt.stdin()),
+        &mut WriterSink::new(rt.stdout()),
+        &mut WriterSink::new(rt.stderr()),
+    )
+}

@@ -1,0 +1,14 @@
+pub mod Kept
+pub mod Certificates
+pub mod Reasons
+pub mod ReadFiles
+pub mod CheckedFiles
+pub mod Counted
+pub mod Stored
+pub mod Spelled
+pub mod Converted
+pub mod NotDone
+pub mod OneTask
+pub mod AcceptedRight
+pub mod FilesRight
+pub mod Received

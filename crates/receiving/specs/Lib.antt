@@ -1,0 +1,9 @@
+pub mod Messages
+pub mod Checks
+pub mod Conversions
+pub mod Files
+pub mod HeldTexts
+pub mod Runs
+pub mod Receiver
+pub mod Starts
+pub mod Theorems

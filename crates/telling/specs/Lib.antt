@@ -1,0 +1,4 @@
+pub mod Devices
+pub mod Progress
+pub mod Messages
+pub mod Printing
