@@ -2,12 +2,8 @@
 use Rattle.std.proofs.Common.{◌≡◌, ℕ, Bool, true, false, List, [], ◌++◌, Option, Some, None, codes, refl, sym, ap, ap₂, ◌∙◌, subst, bytes_eq}
 use Rattle.std.proofs.lemmas.Slice.Eq.{bytes_eq-Decides}
 use Rattle.axioms.specs.Numbering.{Statement}
-use Rattle.axioms.specs.Ontology.{Ontology}
 use Rattle.fs_parser.specs.Tree.{Tree, Trees, Form, Empty, Then}
 use Rattle.profile.proofs.Faultless.{none_first, none_second}
-use Rattle.profile.proofs.OneReading.{one_reading}
-use Rattle.profile.proofs.Versions.{first_in_second}
-use Rattle.profile.specs.Documents.{ReadsAs}
 use Rattle.profile.specs.Statements.{statements}
 use Rattle.program.specs.declared.version.Version.{Version}
 use Rattle.program.specs.declared.version.Version.TheVariants.{One, Two}
@@ -21,17 +17,6 @@ use Rattle.shapes.specs.declared.form.Form as shapes
 use Rattle.shapes.specs.declared.form.Form.TheVariants as forms
 use Rattle.shapes.specs.declared.place.Place.{Place}
 use Rattle.shapes.specs.declared.place.Place.TheVariants.{Front, Axioms}
-
--- ---- ontologies
-
--- what bytes read as in any version they read as in the second
-pub in_second : (version : Version) (bytes : List ℕ) (o : Ontology) → ReadsAs version bytes o → ReadsAs Two bytes o
-in_second One bytes o reads = first_in_second bytes o reads
-in_second Two bytes o reads = reads
-
--- so bytes read as at most one ontology, in whatever versions
-pub one_ontology : (version other : Version) (bytes : List ℕ) (o p : Ontology) → ReadsAs version bytes o → ReadsAs other bytes p → o ≡ p
-one_ontology version other bytes o p reads reads' = one_reading Two bytes o p (in_second version bytes o reads) (in_second other bytes p reads')
 
 -- ---- statements
 

@@ -13,6 +13,7 @@ use Rattle.profile.proofs.Readings.{opened_read}
 use Rattle.profile.specs.declared.opened.Opened.{Opened}
 use Rattle.program.specs.declared.limits.Limits.{Limits}
 use Rattle.program.specs.declared.question.Question.{Question}
+use Rattle.program.specs.declared.question.Spelling.{Spelling}
 use Rattle.session.specs.Answers.{IsMade}
 use Rattle.session.specs.Sessions.{Opened as Session}
 use Rattle.session.specs.TextAnswers.{AnswersIn, AnswersQuestion, IsFaultOf, IsReadAs, IsRunAs}
@@ -27,9 +28,9 @@ module _ (limits : Limits) (document : Option (List ℕ)) (d : Opened) (run : Is
 
   -- ---- answers
 
-  pub answers_question : (r : Result (Vec ℕ) QuestionFault) (question : Question) → IfOk r (λ v. AnswersIn d.ontology question v.items) → IfOk r (λ v. AnswersQuestion limits document question v.items)
-  answers_question (Ok v) question is = (d.ontology, read, run.few, is)
-  answers_question (Err fault) question is = tt
+  pub answers_question : (r : Result (Vec ℕ) QuestionFault) (question : Question) (spelling : Spelling) → IfOk r (λ v. AnswersIn d question spelling v.items) → IfOk r (λ v. AnswersQuestion limits document question spelling v.items)
+  answers_question (Ok v) question spelling is = (d, run, is)
+  answers_question (Err fault) question spelling is = tt
 
   -- ---- faults of a question that was asked at the end
 

@@ -1,6 +1,7 @@
 pub mod Outcomes
 pub mod SessionOpened
 pub mod Finding
+pub mod Deciding
 pub mod Counting
 pub mod AtEnd
 pub mod Growing
@@ -10,5 +11,4 @@ pub mod Calls
 pub mod FactNumber
 pub mod Alike
 pub mod SameTexts
-pub mod Pieces
-pub mod Told
+pub mod Parts

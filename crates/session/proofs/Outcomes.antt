@@ -1,7 +1,7 @@
 -- What a sink has taken, by whether writing to it failed, and which sinks fail.
 use Rattle.std.proofs.Common.{◌≡◌, ◌≤◌, ℕ, zero, suc, List, true, false, Result, Ok, Err, OnOk, OnErr, is_err, subst, lit≤}
 use Rattle.std.specs.Io.KnownBytes.{Appends}
-use Rattle.session.specs.Devices.{Device, Takes, FailsIn}
+use Rattle.telling.specs.Devices.{Device, Takes, FailsIn}
 use Rattle.session.specs.WrittenTexts.{AreWrittenUntil, Sinks, Texts}
 use Rattle.device.specs.Device.{AppendsPrefix, HasFailed}
 

@@ -5,7 +5,7 @@ use Rattle.cert_check.proofs.Determined.{accepted_once}
 use Rattle.cert_check.specs.Acceptance.{IsAcceptable}
 use Rattle.exactness.proofs.Listed.{determined}
 use Rattle.exactness.specs.ListedInterpretation.{IsListedInterpretation}
-use Rattle.session.proofs.AnyVersion.{one_ontology}
+use Rattle.telling.proofs.OneOntology.{one_ontology}
 use Rattle.session.specs.Edits.{ListedIsThatOfOneDocument, TextsAreThoseOfOneDocument}
 
 pub same_texts : TextsAreThoseOfOneDocument

@@ -1,8 +1,9 @@
 -- What a session says where it is asked, and where its texts are written.
-use Rattle.std.specs.Prelude.{◌≡◌, ◌≤◌, List, Result, Ok, Err, length}
+use Rattle.std.specs.Prelude.{◌≡◌, ◌≤◌, ◌↔◌, Bool, true, List, Option, Some, None, Result, Ok, Err, length}
 use Rattle.std.specs.List.{All}
 use Rattle.answers.specs.Questions.{HasName, IsFirstUnknown}
 use Rattle.axioms.specs.Expression.{Iri}
+use Rattle.axioms.specs.Ontology.{Ontology, axiom_trees}
 use Rattle.axioms.specs.declared.terms.Kind.{Kind}
 use Rattle.cert_check.specs.Acceptance.{AreRight, IsAcceptable}
 use Rattle.certificate.specs.declared.format.Format.{Format}
@@ -10,6 +11,7 @@ use Rattle.classification.specs.Classifications.{AreCountsOf, AreTextsOf, IsWrit
 use Rattle.classification.specs.declared.classification.Summary.{Summary}
 use Rattle.device.specs.declared.device.Sink.{Ghosts}
 use Rattle.engine.specs.Saturations.{IsFinished}
+use Rattle.interpretation_spec.specs.Interpretation.{IsContradictory}
 use Rattle.session.specs.Sessions.{Opened}
 use Rattle.session.specs.WrittenTexts.{Sinks, Texts, AreWritten, AreWrittenUntil, all_seen}
 use Rattle.session.specs.declared.fault.AskFault.{AskFault}
@@ -30,6 +32,17 @@ abbrev pub IsAskRefusal : Opened → (names : List (Kind × Iri)) → AskFault �
 IsAskRefusal s names asking.Unfinished = ¬ IsFinished s.saturation
 IsAskRefusal s names (asking.UnknownName unknown) = IsFinished s.saturation × IsFirstUnknown s.ontology names unknown.now
 IsAskRefusal s names asking.Memory = IsFinished s.saturation
+
+-- ---- contradictions
+
+-- whether the axioms hold in some finite interpretation
+abbrev pub IsConsistency : Ontology → Bool → Type 0
+IsConsistency o consistent = (consistent ≡ true) ↔ (IsContradictory (axiom_trees o) → ⊥)
+
+-- what is answered: that, where nothing is pending; nothing, where facts are
+abbrev pub IsDecided : Opened → Option Bool → Type 0
+IsDecided s (Some consistent) = IsFinished s.saturation × IsConsistency s.ontology consistent
+IsDecided s None = ¬ IsFinished s.saturation
 
 -- ---- texts
 

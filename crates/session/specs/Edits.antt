@@ -1,5 +1,5 @@
 -- Calls of a session one after the other, with their answers, and what is then there: what one document states.
-use Rattle.std.specs.Prelude.{◌≡◌, ◌↔◌, ◌+◌, ℕ, List, [], ◌∷◌, ◌++◌, Result, Ok, Err, Some, length}
+use Rattle.std.specs.Prelude.{◌≡◌, ◌↔◌, ◌+◌, ℕ, List, [], ◌∷◌, ◌++◌, Bool, Option, Result, Ok, Err, Some, length}
 use Rattle.std.specs.List.{Contains}
 use Rattle.axioms.specs.Numbering.{Statement, IsOntologyOf}
 use Rattle.axioms.specs.Ontology.{Ontology}
@@ -27,7 +27,7 @@ use Rattle.profile.specs.declared.fault.DocumentFault.{DocumentFault}
 use Rattle.program.specs.declared.question.Question.{Question}
 use Rattle.program.specs.declared.version.Version.{Version}
 use Rattle.session.specs.Additions.{IsAddition, IsRefusedAddition}
-use Rattle.session.specs.Answers.{IsAskRefusal, IsMade, IsQuestioned, IsUnmade, IsWritten}
+use Rattle.session.specs.Answers.{IsAskRefusal, IsDecided, IsMade, IsQuestioned, IsUnmade, IsWritten}
 use Rattle.session.specs.Classifications.{IsClassified}
 use Rattle.session.specs.Inferences.{IsInferred}
 use Rattle.session.specs.Queries.{IsQueryAnswer, IsQueryRefusal, NamesFound}
@@ -40,13 +40,14 @@ use Rattle.shapes.specs.Faults.{axiom_faults, document_faults}
 
 -- ---- calls
 
--- what is asked of a session: to add, to run on, to answer, to write, with a certificate in a format, to sinks that have taken so much, or
--- to infer
+-- what is asked of a session: to add, to run on, to answer, whether the axioms contradict one another, to write, with a certificate in a
+-- format, to sinks that have taken so much, or to infer
 pub data Call : Type 0 where
   Add : (text : List ℕ) → Call
   Resume : (max_facts : ℕ) → Call
   Ask : (question : Question) → Call
   Query : (text : List ℕ) (max_facts : ℕ) → Call
+  Decide : Call
   Write : (format : Format) (before : Sinks) → Call
   Infer : Call
 
@@ -56,6 +57,7 @@ pub data Reply : Type 0 where
   Resumed : Result (Unit {0}) Stop → Reply
   Answered : Result Answer AskFault → Reply
   Found : Result NamesFound QueryFault → Reply
+  Decided : Option Bool → Reply
   Written : (after : Sinks) → Result Summary WritingFault → Reply
   Inferred : Result (Summary × List ℕ) WritingFault → Reply
 
@@ -69,6 +71,7 @@ IsCall old (Ask question) (Answered (Ok answer)) new = IsQuestioned old (names_i
 IsCall old (Ask question) (Answered (Err fault)) new = IsAskRefusal old (names_in question) fault × (new ≡ old)
 IsCall old (Query text most) (Found (Ok found)) new = IsQueryAnswer old text most found × (new ≡ old)
 IsCall old (Query text most) (Found (Err fault)) new = IsQueryRefusal old text most fault × (new ≡ old)
+IsCall old Decide (Decided answer) new = IsDecided old answer × (new ≡ old)
 IsCall old (Write format before) (Written after answer) new = IsWritten old format before after answer × (new ≡ old)
 IsCall old Infer (Inferred (Ok (summary, text))) new = IsFinished old.saturation × IsInferred old.ontology summary text × (new ≡ old)
 IsCall old Infer (Inferred (Err fault)) new = IsUnmade old fault × (new ≡ old)

@@ -1,7 +1,6 @@
-pub mod Devices
-pub mod Progress
 pub mod WrittenTexts
 pub mod Sessions
+pub mod Progress
 pub mod Additions
 pub mod Answers
 pub mod FactCounts

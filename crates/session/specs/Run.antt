@@ -4,7 +4,7 @@ use Rattle.axioms.specs.Ontology.{Ontology}
 use Rattle.profile.specs.Faults.{RefusesKnown}
 use Rattle.program.specs.declared.limits.Limits.{Limits}
 use Rattle.session.specs.TextAnswers.{IsBeyondLimit, IsReadAs}
-use Rattle.session.specs.Devices.{IsReadUntil}
+use Rattle.telling.specs.Devices.{IsReadUntil}
 use Rattle.source_lines.specs.Sources.{SourceState, IsReadToItsEnd}
 use Rattle.session.specs.declared.question_fault.QuestionFault.{QuestionFault}
 use Rattle.session.specs.declared.question_fault.QuestionFault.TheVariants as asking

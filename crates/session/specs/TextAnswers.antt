@@ -1,6 +1,8 @@
 -- What a text answers about a document, and what a fault says where there is none.
 use Rattle.std.specs.Prelude.{◌≡◌, ◌⊎◌, ◌++◌, ◌∷◌, ℕ, List, [], Bool, true, false, Option, Result, Ok, Err, codes, map}
 use Rattle.std.specs.List.{flat_map}
+use Rattle.answer_texts.specs.Cited.{IsCitedText}
+use Rattle.answer_texts.specs.Conditions.{axiom_number_line, part_line}
 use Rattle.answer_texts.specs.Graphs.{proof_graph, refutation_graph}
 use Rattle.answer_texts.specs.Names.{line_feed, name_text}
 use Rattle.answer_texts.specs.Proof.{proof_text}
@@ -11,6 +13,7 @@ use Rattle.axioms.specs.Ontology.{Ontology}
 use Rattle.axioms.specs.declared.terms.Kind.{Kind}
 use Rattle.certificate.specs.Certificate.{Line}
 use Rattle.certificate.specs.View.{lines_of}
+use Rattle.fs_parser.specs.Name.{Prefixes}
 use Rattle.profile.specs.Documents.{IsTaken}
 use Rattle.profile.specs.Faults.{OpensKnown, ReadsKnown, RefusesKnown}
 use Rattle.profile.specs.declared.opened.Opened as reading
@@ -23,14 +26,20 @@ use Rattle.answers.specs.Names.{groups_in}
 use Rattle.answers.specs.Questions.{AreKnown, IsAnswerTo, IsFirstUnknown}
 use Rattle.answers.specs.declared.answer.Answer.{Answer}
 use Rattle.answers.specs.declared.answer.Answer.TheVariants as answers
+use Rattle.answers.specs.declared.condition.Condition.{Condition}
+use Rattle.answers.specs.declared.condition.Lacking.{Lacking}
+use Rattle.answers.specs.declared.condition.Lacking.TheVariants.{Nothing, Conditions}
+use Rattle.answers.specs.declared.condition.Part.{Part}
 use Rattle.interpretation_spec.specs.NumberedInterpretation.{NumberedInterpretation}
 use Rattle.program.specs.declared.question.Question.{Question}
 use Rattle.program.specs.declared.question.Question.TheVariants as questions
 use Rattle.program.specs.declared.question.Shown.{Shown}
+use Rattle.program.specs.declared.question.Spelling.{Spelling}
+use Rattle.short_names.specs.Spellings.{IsSpelled}
 use Rattle.answers.specs.declared.explanation.Explanation.{Explanation}
 use Rattle.answers.specs.declared.explanation.Explanation.TheVariants.{Yes, No, Contradictory}
 use Rattle.session.specs.FactCounts.{HasNoMoreFactsThan}
-use Rattle.session.specs.Devices.{IsReadUntil}
+use Rattle.telling.specs.Devices.{IsReadUntil}
 use Rattle.session.specs.Queries.{IsAnswer, IsUnanswerable, NamesFound}
 use Rattle.session.specs.declared.query_fault.QueryFault.{QueryFault}
 use Rattle.session.specs.declared.query_fault.QueryFault.TheVariants as querying
@@ -40,6 +49,14 @@ use Rattle.source_lines.specs.Sources.{SourceState, IsReadToItsEnd}
 pub record IsReadAs (version : Version) (most_bytes : ℕ) (document : Option (List ℕ)) (o : Ontology) : Type 0 where
   pub reads : ReadsKnown version document most_bytes o
   pub taken : IsTaken o
+
+-- the document, of at most so many bytes, reads in the version as the ontology, with these prefixes and so many bytes, and its closure
+-- has at most so many facts
+pub record IsRunAs (limits : Limits) (document : Option (List ℕ)) (d : reading.Opened) : Type 0 where
+  pub opens : OpensKnown limits.version document limits.max_bytes d
+  pub read_in : d.version ≡ limits.version
+  pub taken : IsTaken d.ontology
+  pub few : HasNoMoreFactsThan d.ontology [] limits.max_facts
 
 -- ---- names
 
@@ -62,10 +79,11 @@ group_lines groups = flat_map (λ group. group_text group ++ line_feed) groups
 
 -- ---- why something follows, or why not
 
--- the lines of a derivation, behind the answer; or its graph
-abbrev pub derivation_shown : (graph : Bool) → (answer : List ℕ) → Ontology → List Line → List ℕ
-derivation_shown false answer o lines = answer ++ proof_text o lines
-derivation_shown true answer o lines = proof_graph o lines
+-- the lines of a derivation, behind the answer, and behind them those of the axioms that they cite, where these are asked for; or its graph
+abbrev pub IsDerivationShown : (graph axioms : Bool) → (answer : List ℕ) → Ontology → List Line → (text : List ℕ) → Type 0
+IsDerivationShown false false answer o lines text = text ≡ answer ++ proof_text o lines
+IsDerivationShown false true answer o lines text = (cited : List ℕ) × IsCitedText o lines cited × (text ≡ answer ++ proof_text o lines ++ cited)
+IsDerivationShown true axioms answer o lines text = text ≡ proof_graph o lines
 
 -- the lines of a refutation, or its graph; of all elements, or of those alone that are reached from the one that refutes
 abbrev pub IsRefutationShown : (graph reached : Bool) → Ontology → NumberedInterpretation → (element : ℕ) → (text : List ℕ) → Type 0
@@ -76,41 +94,65 @@ IsRefutationShown true true o i x text = IsOfReached i x (λ reached. reached_gr
 
 -- an explanation in the way that is asked for: as lines with whether it follows before those of a derivation, or as a graph
 abbrev pub IsShown : Ontology → Shown → Explanation → (text : List ℕ) → Type 0
-IsShown o shown (Yes lines) text = text ≡ derivation_shown shown.graph (codes "yes\n") o (lines_of lines.items)
+IsShown o shown (Yes lines) text = IsDerivationShown shown.graph shown.axioms (codes "yes\n") o (lines_of lines.items) text
 IsShown o shown (No i x) text = IsRefutationShown shown.graph shown.reached o i x text
-IsShown o shown (Contradictory lines) text = text ≡ derivation_shown shown.graph (codes "contradictory\n") o (lines_of lines.items)
+IsShown o shown (Contradictory lines) text = IsDerivationShown shown.graph shown.axioms (codes "contradictory\n") o (lines_of lines.items) text
+
+-- ---- what is lacked
+
+-- a line for each part of a condition
+abbrev pub part_lines : Ontology → List Part → List ℕ
+part_lines o parts = flat_map (λ part. part_line o part.has part.expression.0) parts
+
+-- the line of the axiom that states the condition, and behind it those of its parts
+abbrev pub condition_lines : Ontology → Condition → List ℕ
+condition_lines o condition = axiom_number_line condition.axiom ++ part_lines o condition.parts.items
+
+-- the lines of all conditions, or that there is none
+abbrev pub conditions_text : Ontology → List Condition → List ℕ
+conditions_text o [] = codes "no condition\n"
+conditions_text o (condition ∷ later) = condition_lines o condition ++ flat_map (condition_lines o) later
+
+-- that nothing is lacked, or what there is of each condition
+abbrev pub lacking_text : Ontology → Lacking → List ℕ
+lacking_text o Nothing = codes "yes\n"
+lacking_text o (Conditions found) = conditions_text o found.items
 
 -- ---- the answer to a question
 
--- the text of an answer: a line for each name, or for each group; or the explanation as the question wants it
+-- the text of an answer: a line for each name, or for each group; or the explanation as the question wants it; or what is lacked
 abbrev pub IsAnswerText : Ontology → Question → Answer → (text : List ℕ) → Type 0
 IsAnswerText o (questions.Names related class) (answers.Names names) text = text ≡ name_lines [] (map (λ name. name.now) names.items)
 IsAnswerText o (questions.Groups side class) (answers.Groups groups) text = text ≡ group_lines (groups_in groups.items)
 IsAnswerText o (questions.Why asked class shown) (answers.Why explanation) text = IsShown o shown explanation text
+IsAnswerText o questions.Unsatisfiable (answers.Names names) text = text ≡ name_lines [] (map (λ name. name.now) names.items)
+IsAnswerText o (questions.Types individual) (answers.Names names) text = text ≡ name_lines [] (map (λ name. name.now) names.items)
+IsAnswerText o (questions.DirectTypes individual) (answers.Groups groups) text = text ≡ group_lines (groups_in groups.items)
+IsAnswerText o (questions.Lacks asked class) (answers.Lacks lacking) text = text ≡ lacking_text o lacking
 IsAnswerText o question answer text = ⊥
 
--- the ontology has the names of the question, and the text is that of an answer that says what is the case in every finite
--- interpretation of the axioms
-pub record AnswersIn (o : Ontology) (question : Question) (text : List ℕ) : Type 0 where
-  pub known : AreKnown o question
+-- whether the text of an answer is a graph
+abbrev pub is_graph : Question → Bool
+is_graph (questions.Why asked class shown) = shown.graph
+is_graph question = false
+
+-- that text, with its names spelled so, by the prefixes
+abbrev pub IsSpelledAnswer : Prefixes → Spelling → Ontology → Question → Answer → (text : List ℕ) → Type 0
+IsSpelledAnswer prefixes spelling o question answer text = (full : List ℕ) × IsAnswerText o question answer full × IsSpelled spelling prefixes (is_graph question) full text
+
+-- what was read has the names of the question, and the text is that of an answer that says what is the case in every finite
+-- interpretation of the axioms, with names spelled so
+pub record AnswersIn (d : reading.Opened) (question : Question) (spelling : Spelling) (text : List ℕ) : Type 0 where
+  pub known : AreKnown d.ontology question
   pub answer : Answer
-  pub exact : IsAnswerTo o question answer
-  pub written : IsAnswerText o question answer text
+  pub exact : IsAnswerTo d.ontology question answer
+  pub written : IsSpelledAnswer d.prefixes spelling d.ontology question answer text
 
 -- the document reads as an ontology whose closure has at most so many facts, and by which the text answers the question
-abbrev pub AnswersQuestion : Limits → (document : Option (List ℕ)) → Question → (text : List ℕ) → Type 0
-AnswersQuestion limits document question text =
-    (o : Ontology) × IsReadAs limits.version limits.max_bytes document o × HasNoMoreFactsThan o [] limits.max_facts × AnswersIn o question text
+abbrev pub AnswersQuestion : Limits → (document : Option (List ℕ)) → Question → Spelling → (text : List ℕ) → Type 0
+AnswersQuestion limits document question spelling text = (d : reading.Opened) × IsRunAs limits document d × AnswersIn d question spelling text
 
 -- ---- the names of a class expression
-
--- the document, of at most so many bytes, reads in the version as the ontology, with these prefixes and so many bytes, and its closure
--- has at most so many facts
-pub record IsRunAs (limits : Limits) (document : Option (List ℕ)) (d : reading.Opened) : Type 0 where
-  pub opens : OpensKnown limits.version document limits.max_bytes d
-  pub read_in : d.version ≡ limits.version
-  pub taken : IsTaken d.ontology
-  pub few : HasNoMoreFactsThan d.ontology [] limits.max_facts
 
 -- the lines of the classes above, of those below, and of the individuals
 abbrev pub query_lines : NamesFound → List ℕ
@@ -125,10 +167,14 @@ pub record ListsAnswers (d : reading.Opened) (most_bytes max_facts : ℕ) (text 
   pub answer : IsAnswer d most_bytes max_facts text found
   pub lines : out ≡ query_lines found
 
+-- the same lines, with names spelled so
+abbrev pub ListsSpelled : reading.Opened → (most_bytes max_facts : ℕ) → (text : List ℕ) → Spelling → (out : List ℕ) → Type 0
+ListsSpelled d most_bytes max_facts text spelling out = (full : List ℕ) × ListsAnswers d most_bytes max_facts text full × IsSpelled spelling d.prefixes false full out
+
 -- the document reads as an ontology whose closure has at most so many facts, and the lines answer what the text asks
-abbrev pub AnswersQuery : Limits → (document : Option (List ℕ)) → (text out : List ℕ) → Type 0
-AnswersQuery limits document text out =
-    (d : reading.Opened) × IsRunAs limits document d × ListsAnswers d limits.max_bytes limits.max_facts text out
+abbrev pub AnswersQuery : Limits → (document : Option (List ℕ)) → (text : List ℕ) → Spelling → (out : List ℕ) → Type 0
+AnswersQuery limits document text spelling out =
+    (d : reading.Opened) × IsRunAs limits document d × ListsSpelled d limits.max_bytes limits.max_facts text spelling out
 
 -- the document reads as an ontology whose closure has at most so many facts, and what the fault says of the text
 abbrev pub LeavesUnanswered : Limits → (document : Option (List ℕ)) → (text : List ℕ) → QueryFault → Type 0

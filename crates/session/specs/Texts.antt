@@ -1,5 +1,5 @@
 -- What explanations can be written, and what a session does not answer.
-use Rattle.std.specs.Prelude.{ℕ, List}
+use Rattle.std.specs.Prelude.{ℕ, ◌<◌, List, length}
 use Rattle.std.specs.List.{All}
 use Rattle.axioms.specs.Expression.{Iri}
 use Rattle.axioms.specs.Ontology.{Ontology}
@@ -9,6 +9,8 @@ use Rattle.certificate.specs.View.{lines_of}
 use Rattle.interpretation_spec.specs.NumberedInterpretation.{IsMadeFor}
 use Rattle.session.specs.declared.question_fault.QuestionFault.{QuestionFault}
 use Rattle.session.specs.declared.question_fault.QuestionFault.TheVariants.{Document, Limit, UnknownName, Expression, Memory}
+use Rattle.answers.specs.declared.condition.Lacking.{Lacking}
+use Rattle.answers.specs.declared.condition.Lacking.TheVariants.{Nothing, Conditions}
 use Rattle.answers.specs.declared.explanation.Explanation.{Explanation}
 use Rattle.answers.specs.declared.explanation.Explanation.TheVariants.{Yes, No, Contradictory}
 use Rattle.answers.specs.Questions.{IsFirstUnknown}
@@ -21,6 +23,11 @@ abbrev pub HasText : Ontology → Explanation → Type 0
 HasText o (Yes lines) = All (IsLineOf o) (lines_of lines.items)
 HasText o (No i x) = IsMadeFor o.names i
 HasText o (Contradictory lines) = All (IsLineOf o) (lines_of lines.items)
+
+-- the parts of its conditions are expressions of the ontology
+abbrev pub IsWithin : Ontology → Lacking → Type 0
+IsWithin o Nothing = Unit {0}
+IsWithin o (Conditions found) = All (λ condition. All (λ part. part.expression.0 < length o.nodes) condition.parts.items) found.items
 
 -- what a fault says of an ontology whose closure is known, and of the names in the question: a name is told, or memory was refused
 abbrev pub IsUnanswered : Ontology → (names : List (Kind × Iri)) → QuestionFault → Type 0

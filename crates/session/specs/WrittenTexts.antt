@@ -2,7 +2,7 @@
 use Rattle.std.specs.Prelude.{◌≡◌, ℕ, zero, suc, List, Result, Ok, Err}
 use Rattle.classification.specs.declared.classification.Classification.{Classification}
 use Rattle.device.specs.declared.device.Sink.{Ghosts}
-use Rattle.session.specs.Devices.{Device, seen, Takes, FailsIn}
+use Rattle.telling.specs.Devices.{Device, seen, Takes, FailsIn}
 
 -- what takes the three texts
 pub record Sinks : Type 0 where

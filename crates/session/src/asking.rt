@@ -1,6 +1,7 @@
 //! Questions to a session, and their answers.
 ghost use Rattle.answers.specs.Explanations.{Explains};
-ghost use Rattle.answers.specs.Questions.{AreRelated, HasName, IsAnswerTo, IsFirstUnknown, names_in, subject_name, class_name};
+ghost use Rattle.answers.specs.Names.{groups_in};
+ghost use Rattle.answers.specs.Questions.{AreDirectTypes, AreRelated, AreTypes, AreUnsatisfiable, HasName, IsAnswerTo, IsFirstUnknown, names_in, subject_name, class_name, individual_name};
 ghost use Rattle.program.specs.declared.question.Related.TheVariants.{Instances, Subclasses, Superclasses};
 ghost use Rattle.session.specs.Answers.{IsAskRefusal, IsQuestioned};
 ghost use Rattle.std.specs.Prelude.{◌↔◌, ◌≡◌, ◌∷◌, [], All, IfErr, IfOk, IsTrue, OnOk, map};
@@ -15,6 +16,7 @@ use program::{Asked, Question, Related, Shown};
 const LINES: Shown = Shown {
     graph: false,
     reached: false,
+    axioms: false,
 };
 
 fn name_of<'n>(asked: Asked<'n>) -> &'n str
@@ -36,6 +38,18 @@ fn is_known(ontology: &Ontology, asked: Asked<'_>) -> bool
     }
 }
 
+/// The first that the ontology lacks, of what is asked of and the class.
+fn first_of_both<'n>(ontology: &Ontology, asked: Asked<'n>, class: &'n str) -> &'n str
+    requires { All (HasName ontology.now) (subject_name asked ∷ class_name class.now ∷ []) → ⊥ }
+    ensures { IsFirstUnknown ontology.now (subject_name asked.entry ∷ class_name class.now ∷ []) result.now }
+{
+    if is_known(ontology, asked) {
+        class
+    } else {
+        name_of(asked)
+    }
+}
+
 /// The first of the question's names that the ontology lacks.
 fn first_unknown<'n>(ontology: &Ontology, question: Question<'n>) -> &'n str
     requires { All (HasName ontology.now) (names_in question) → ⊥ }
@@ -44,19 +58,18 @@ fn first_unknown<'n>(ontology: &Ontology, question: Question<'n>) -> &'n str
     match question {
         Question::Names(_, class) => class,
         Question::Groups(_, class) => class,
-        Question::Why(asked, class, _) => {
-            if is_known(ontology, asked) {
-                class
-            } else {
-                name_of(asked)
-            }
-        }
+        Question::Unsatisfiable => unreachable!(),
+        Question::Types(individual) => individual,
+        Question::DirectTypes(individual) => individual,
+        Question::Why(asked, class, _) => first_of_both(ontology, asked, class),
+        Question::Lacks(asked, class) => first_of_both(ontology, asked, class),
     }
 }
 
 impl Session {
     /// The answer to the question, by what holds in every finite interpretation in which the axioms hold. Where there is no such
-    /// interpretation, all names are related in each way to each class, and none lies directly above or below another.
+    /// interpretation, all names are related in each way to each class, and none lies directly above or below another; all classes but
+    /// `owl:Nothing` are unsatisfiable, and the direct types of each individual are all classes, as one group.
     ///
     /// # Errors
     ///
@@ -92,7 +105,7 @@ impl Session {
     {
         match self.ask(Question::Names(related, class)) {
             Ok(Answer::Names(names)) => Ok(names),
-            Ok(Answer::Groups(_) | Answer::Why(_)) => unreachable!(),
+            Ok(_) => unreachable!(),
             Err(fault) => Err(fault),
         }
     }
@@ -139,6 +152,64 @@ impl Session {
         self.related(Related::Instances, class)
     }
 
+    /// The IRIs of the named classes, `owl:Nothing` left out, that have no element in any finite interpretation in which the axioms
+    /// hold, in byte order. Where there is no such interpretation, these are all named classes but `owl:Nothing`.
+    ///
+    /// # Errors
+    ///
+    /// Those of `ask`, but for `UnknownName`.
+    pub fn unsatisfiable<'s>(&'s self) -> Result<Vec<&'s str>, AskFault<'static>>
+        ensures exact { IfOk result (λ v. AreUnsatisfiable self.now.ontology (map (λ s. s.now) v.items)) }
+        ensures asked { OnOk result (IsQuestioned self.now []) }
+        ensures refused { IfErr result (IsAskRefusal self.now []) }
+    {
+        match self.ask(Question::Unsatisfiable) {
+            Ok(Answer::Names(classes)) => Ok(classes),
+            Ok(_) => unreachable!(),
+            Err(fault) => Err(fault),
+        }
+    }
+
+    /// The IRIs of the named classes that the individual belongs to in every finite interpretation in which the axioms hold, in byte
+    /// order. Where there is no such interpretation, these are all named classes.
+    ///
+    /// # Errors
+    ///
+    /// Those of `ask`.
+    pub fn types<'s, 'n>(&'s self, individual: &'n str) -> Result<Vec<&'s str>, AskFault<'n>>
+        ensures exact { IfOk result (λ v. AreTypes self.now.ontology individual.now (map (λ s. s.now) v.items)) }
+        ensures asked { OnOk result (IsQuestioned self.now (individual_name individual.now ∷ [])) }
+        ensures refused { IfErr result (IsAskRefusal self.now (individual_name individual.now ∷ [])) }
+    {
+        match self.ask(Question::Types(individual)) {
+            Ok(Answer::Names(classes)) => Ok(classes),
+            Ok(_) => unreachable!(),
+            Err(fault) => Err(fault),
+        }
+    }
+
+    /// The direct types of the individual: the named classes that it belongs to in every finite interpretation in which the axioms hold
+    /// such that it belongs to none that lies strictly below one of them, by their IRIs, in groups of those that are the same. Where
+    /// there is no such interpretation, these are all named classes, as one group.
+    ///
+    /// # Errors
+    ///
+    /// Those of `ask`.
+    pub fn direct_types<'s, 'n>(
+        &'s self,
+        individual: &'n str,
+    ) -> Result<Vec<Vec<&'s str>>, AskFault<'n>>
+        ensures exact { IfOk result (λ v. AreDirectTypes self.now.ontology individual.now (groups_in v.items)) }
+        ensures asked { OnOk result (IsQuestioned self.now (individual_name individual.now ∷ [])) }
+        ensures refused { IfErr result (IsAskRefusal self.now (individual_name individual.now ∷ [])) }
+    {
+        match self.ask(Question::DirectTypes(individual)) {
+            Ok(Answer::Groups(groups)) => Ok(groups),
+            Ok(_) => unreachable!(),
+            Err(fault) => Err(fault),
+        }
+    }
+
     /// Whether what is asked of is in the class in every finite interpretation in which the axioms hold, and why.
     ///
     /// # Errors
@@ -151,7 +222,7 @@ impl Session {
     {
         match self.ask(Question::Why(asked, class, LINES)) {
             Ok(Answer::Why(explanation)) => Ok(explanation),
-            Ok(Answer::Names(_) | Answer::Groups(_)) => unreachable!(),
+            Ok(_) => unreachable!(),
             Err(fault) => Err(fault),
         }
     }

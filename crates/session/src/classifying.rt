@@ -3,8 +3,8 @@ ghost use Rattle.engine.specs.Saturations.{IsFinished};
 ghost use Rattle.profile.specs.declared.fault.DocumentFault.TheVariants as reading;
 ghost use Rattle.session.specs.Answers.{IsMade};
 ghost use Rattle.session.specs.Classifications.{IsClassified};
-ghost use Rattle.session.specs.Devices.{seen};
-ghost use Rattle.session.specs.Progress.{IsProgress};
+ghost use Rattle.telling.specs.Devices.{seen};
+ghost use Rattle.telling.specs.Progress.{IsProgress};
 ghost use Rattle.source_lines.specs.Sources.{source_state};
 ghost use Rattle.session.specs.Run.{IsRunFault, IsRunRead};
 ghost use Rattle.session.specs.WrittenTexts.{texts_of};
@@ -12,7 +12,6 @@ ghost use Rattle.session.specs.declared.run_fault.RunFault.TheVariants as run_fa
 ghost use Rattle.std.specs.Prelude.{◌+◌, ◌<◌, IfErr, IfOk, IsErrOf};
 
 use crate::opening::run_telling;
-use crate::progress::{Stage, tell_stage};
 use crate::run_fault::RunFault;
 use crate::session::Session;
 use axioms::Memory;
@@ -22,6 +21,7 @@ use device::{Sink, Source};
 use profile::Limits;
 use std::alloc::Global;
 use std::hash::RandomState;
+use telling::{Stage, tell_stage};
 
 /// How many line feeds the text has.
 fn line_feeds(text: &[u8]) -> usize {

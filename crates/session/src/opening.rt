@@ -1,8 +1,9 @@
 //! Documents that are read and run to their end.
 ghost use Rattle.engine.specs.Saturations.{IsFinished};
 ghost use Rattle.profile.specs.declared.fault.DocumentFault.TheVariants as reading;
-ghost use Rattle.session.specs.Devices.{seen};
-ghost use Rattle.session.specs.Progress.{IsProgress, IsStageTold, opened_stage};
+ghost use Rattle.telling.specs.Devices.{seen};
+ghost use Rattle.telling.specs.Progress.{IsProgress, IsStageTold};
+ghost use Rattle.session.specs.Progress.{opened_stage};
 ghost use Rattle.session.specs.Run.{IsRunFault, IsRunRead};
 ghost use Rattle.session.specs.Sessions.{as_read};
 ghost use Rattle.session.specs.TextAnswers.{IsRunAs};
@@ -10,7 +11,6 @@ ghost use Rattle.session.specs.declared.run_fault.RunFault.TheVariants as run_fa
 ghost use Rattle.source_lines.specs.Sources.{source_state};
 ghost use Rattle.std.specs.Prelude.{◌≡◌, ◌+◌, ◌<◌, ◌≤◌, IfErr, IfOk, IsErrOf, length};
 
-use crate::progress::{Stage, tell_stage};
 use crate::run_fault::RunFault;
 use crate::session::Session;
 use crate::slices::resume_slices;
@@ -19,6 +19,7 @@ use engine::Stop;
 use profile::Limits;
 use std::alloc::Global;
 use std::hash::RandomState;
+use telling::{Stage, tell_stage};
 
 /// Tells what was read, where progress is told.
 pub fn tell_opened<W: Sink>(session: &Session, told: bool, sink: &mut W)

@@ -1,15 +1,16 @@
 //! Runs in slices of facts.
 ghost use Rattle.engine.specs.Saturations.{IsFinished, Saturates};
 ghost use Rattle.inference.specs.declared.known_facts.Stop.TheVariants as stops;
-ghost use Rattle.session.specs.Devices.{seen};
-ghost use Rattle.session.specs.Progress.{IsProgress, IsStageTold, drawn_stage};
+ghost use Rattle.telling.specs.Devices.{seen};
+ghost use Rattle.telling.specs.Progress.{IsProgress, IsStageTold};
+ghost use Rattle.session.specs.Progress.{drawn_stage};
 ghost use Rattle.session.specs.Sessions.{KeepsText};
 ghost use Rattle.std.specs.Prelude.{◌≡◌, ◌≤◌, ◌↔◌, Err, IsTrue, OnOk, length};
 
-use crate::progress::{Stage, tell_stage};
 use crate::session::Session;
 use device::Sink;
 use engine::Stop;
+use telling::{Stage, tell_stage};
 
 /// How many facts more may be drawn before it is told again how many there are.
 pub const SLICE: u32 = 250_000;

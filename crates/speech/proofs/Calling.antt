@@ -1,16 +1,13 @@
 -- Calls of a session, and what is told of them.
-use Rattle.std.proofs.Common.{◌≡◌, ◌∙◌, ◌⊎◌, [], ap, arith, sym, ℕ, List, Result, Ok, Err, refl, subst, inl, inr, ⊎_elim, IfOk, IfErr, OnOk}
+use Rattle.std.proofs.Common.{◌≡◌, ◌∙◌, ◌⊎◌, [], ap, sym, ℕ, List, Result, Ok, Err, refl, subst, inl, inr, ⊎_elim, IfOk, IfErr}
 use Rattle.std.specs.Str.{IsUtf8, IsValidUpTo}
-use Rattle.answers.specs.Questions.{IsAnswerTo, names_in}
 use Rattle.answers.specs.declared.answer.Answer.{Answer}
-use Rattle.axioms.specs.Ontology.{Ontology}
 use Rattle.profile.specs.declared.fault.DocumentFault.TheVariants.{NotUtf8}
 use Rattle.inference.specs.declared.known_facts.Stop.{Stop}
-use Rattle.inference.specs.declared.known_facts.Stop.TheVariants as stops
 use Rattle.program.specs.declared.limits.Limits.{Limits}
 use Rattle.program.specs.declared.question.Question.{Question}
+use Rattle.program.specs.declared.question.Spelling.{Spelling}
 use Rattle.program.specs.declared.status.Status.{Status}
-use Rattle.session.specs.Answers.{IsAskRefusal, IsQuestioned}
 use Rattle.session.specs.Edits as edits
 use Rattle.session.specs.Edits.{Answered, Ask, Call, Found, IsCall, Query, Resume, Resumed, added}
 use Rattle.session.specs.Queries.{IsQueryAnswer, IsQueryRefusal, names_in as names_found}
@@ -19,7 +16,7 @@ use Rattle.session.specs.declared.fault.AskFault.{AskFault}
 use Rattle.session.specs.declared.query_fault.QueryFault.{QueryFault}
 use Rattle.session.specs.declared.querying.Answers.{Answers}
 use Rattle.session.specs.declared.question_fault.QuestionFault.TheVariants as faults
-use Rattle.speech.specs.Answers.{IsAnswerTold, IsAnsweredTold, IsCalled, IsFaultTold, IsRunTo, IsRunTold, IsSaid, IsTextCalled, Tells, found}
+use Rattle.speech.specs.Answers.{IsAnswerTold, IsAnsweredTold, IsAsked, IsCalled, IsFaultTold, IsRunTo, IsRunTold, IsSaid, IsTextCalled, Tells, found}
 use Rattle.speech.specs.Replies.{Told, out_of_memory, told, told_by}
 use Rattle.speech.specs.declared.reply.Reply.{Reply}
 
@@ -29,11 +26,11 @@ told_or P (Err refused) h = inr refl
 
 -- what is told of a call that adds nothing
 pub called : {X : Type 0} (limits : Limits) (call : Call) (old new : Opened) (answer : edits.Reply) (r : Result Reply X) → IsCall old call answer new → added call answer ≡ []
-    → Tells (IsAnswerTold limits call new answer) r → IsCalled limits call old (told_by r) new
-called limits call old new answer r h none tells = record { reply = answer; called = h; answer = ⊎_elim (λ t. inl t) (λ e. inr (none, e)) (told_or (IsAnswerTold limits call new answer) r tells) }
+    → Tells (IsAnswerTold limits answer) r → IsCalled limits call old (told_by r) new
+called limits call old new answer r h none tells = record { reply = answer; called = h; answer = ⊎_elim (λ t. inl t) (λ e. inr (none, e)) (told_or (IsAnswerTold limits answer) r tells) }
 
 -- and of one for whose reply there was memory
-pub called_ok : (limits : Limits) (call : Call) (old new : Opened) (answer : edits.Reply) (t : Told) → IsCall old call answer new → IsAnswerTold limits call new answer t
+pub called_ok : (limits : Limits) (call : Call) (old new : Opened) (answer : edits.Reply) (t : Told) → IsCall old call answer new → IsAnswerTold limits answer t
     → IsCalled limits call old t new
 called_ok limits call old new answer t h tells = record { reply = answer; called = h; answer = inl tells }
 
@@ -45,34 +42,16 @@ pub run_to : (limits : Limits) (end : ℕ) (old new : Opened) (result : Result (
     → IsRunTold limits end new result t ⊎ (t ≡ out_of_memory) → IsRunTo limits end old t new
 run_to limits end old new result t h tells = record { result = result; called = h; answer = tells }
 
-told_at_limit : (limits : Limits) (s : Opened) (result : Result (Unit {0}) Stop) (t : Told) → IsRunTold limits limits.max_facts s result t ⊎ (t ≡ out_of_memory)
-    → IsAnswerTold limits (Resume limits.max_facts) s (Resumed result) t ⊎ ((added (Resume limits.max_facts) (Resumed result) ≡ []) × (t ≡ out_of_memory))
-told_at_limit limits s (Ok made) t (inl h) = inl h
-told_at_limit limits s (Err stops.Limit) t (inl (inl (same, h))) = inl h
-told_at_limit limits s (Err stops.Limit) t (inl (inr (below, h))) = absurd (omega (arith, below))
-told_at_limit limits s (Err stops.Memory) t (inl h) = inl h
-told_at_limit limits s result t (inr none) = inr (refl, none)
-
--- one to the limit is a call that is told as others are
-pub run_called : (limits : Limits) (old new : Opened) (t : Told) → IsRunTo limits limits.max_facts old t new → IsCalled limits (Resume limits.max_facts) old t new
-run_called limits old new t h = record { reply = Resumed h.result; called = h.called; answer = told_at_limit limits new h.result t h.answer }
-
--- a question, and its answer
-pub ask_call : (s : Opened) (question : Question) (r : Result Answer AskFault) → IfOk r (IsAnswerTo s.ontology question) → OnOk r (IsQuestioned s (names_in question))
-    → IfErr r (IsAskRefusal s (names_in question)) → IsCall s (Ask question) (Answered r) s
-ask_call s question (Ok answer) exact asked refused = (asked, exact, refl)
-ask_call s question (Err fault) exact asked refused = (refused, refl)
-
+-- a query, and its answer
 pub query_call : (s : Opened) (text : List ℕ) (most : ℕ) (r : Result Answers QueryFault) → IfOk r (λ a. IsQueryAnswer s text most (names_found a)) → IfErr r (IsQueryRefusal s text most)
     → IsCall s (Query text most) (Found (found r)) s
 query_call s text most (Ok answers) exact refused = (exact, refl)
 query_call s text most (Err fault) exact refused = (refused, refl)
 
--- of the ontology of the session
-pub answered : {X : Type 0} (limits : Limits) (s : Opened) (question : Question) (o : Ontology) (answer : Result Answer AskFault) (r : Result Reply X) → o ≡ s.ontology
-    → IsCall s (Ask question) (Answered answer) s → Tells (IsAnsweredTold limits o question answer) r → IsCalled limits (Ask question) s (told_by r) s
-answered limits s question o answer r same h tells =
-    called limits (Ask question) s s (Answered answer) r h refl (subst (λ (p : Ontology). Tells (IsAnsweredTold limits p question answer) r) same tells)
+-- a question, and what is told of its answer
+pub asked : {X : Type 0} (limits : Limits) (s : Opened) (question : Question) (spelling : Spelling) (result : Result Answer AskFault) (r : Result Reply X) → IsCall s (Ask question) (Answered result) s
+    → Tells (IsAnsweredTold limits s question spelling result) r → IsAsked limits question spelling s (told_by r) s
+asked limits s question spelling result r h tells = record { result = result; called = h; answer = told_or (IsAnsweredTold limits s question spelling result) r tells }
 
 -- bytes that are no text
 pub no_text_said : {X : Type 0} (limits : Limits) (call : List ℕ → Call) (payload : List ℕ) (s : Opened) (at n : ℕ) (r : Result Reply X) → (IsUtf8 payload → ⊥) → IsValidUpTo payload n → at ≡ n
@@ -82,12 +61,12 @@ no_text_said limits call payload s at n r none valid same tells =
 
 -- bytes that are the text
 pub text_called : {X : Type 0} (limits : Limits) (call : List ℕ → Call) (payload text : List ℕ) (old new : Opened) (answer : edits.Reply) (r : Result Reply X) → text ≡ payload
-    → IsCall old (call text) answer new → added (call payload) answer ≡ [] → Tells (IsAnswerTold limits (call payload) new answer) r → IsTextCalled limits call payload old (told_by r) new
+    → IsCall old (call text) answer new → added (call payload) answer ≡ [] → Tells (IsAnswerTold limits answer) r → IsTextCalled limits call payload old (told_by r) new
 text_called limits call payload text old new answer r same h none tells =
     inl (called limits (call payload) old new answer r (subst (λ (bytes : List ℕ). IsCall old (call bytes) answer new) same h) none tells)
 
 pub text_added : (limits : Limits) (payload text : List ℕ) (old new : Opened) (made : Unit {0}) (t : Told) → text ≡ payload → IsCall old (edits.Add text) (edits.Added (Ok made)) new
-    → IsAnswerTold limits (edits.Add payload) new (edits.Added (Ok made)) t → IsTextCalled limits edits.Add payload old t new
+    → IsAnswerTold limits (edits.Added (Ok made)) t → IsTextCalled limits edits.Add payload old t new
 text_added limits payload text old new made t same h tells =
     inl (called_ok limits (edits.Add payload) old new (edits.Added (Ok made)) t (subst (λ (bytes : List ℕ). IsCall old (edits.Add bytes) (edits.Added (Ok made)) new) same h) tells)
 

@@ -2,7 +2,7 @@
 use Rattle.std.proofs.Common.{◌≡◌, ◌+◌, ◌<◌, ◌++◌, ◌∷◌, [], ℕ, List, Some, length, inl, inr, refl, sym, ap, subst, length-append, arith}
 use Rattle.source_lines.specs.Sources.{SourceState}
 use Rattle.speech.specs.Conversations.{AreTurns, Exchange, IsConversation, IsLastTurn, IsTurn, IsTurnedDown, Point, ended, point, size_behind, text_asked, text_behind, text_told, told_of}
-use Rattle.session.specs.Devices.{Device, FailsIn, Takes}
+use Rattle.telling.specs.Devices.{Device, FailsIn, Takes}
 use Rattle.speech.specs.Replies.{reply_text}
 use Rattle.speech.specs.Turns.{IsNext, IsOneTurn, IsRefusalTold}
 use Rattle.speech.specs.declared.conversation.Ending.{Ending}

@@ -1,8 +1,6 @@
 -- Exchanges as calls of a session.
 use Rattle.std.proofs.Common.{◌≡◌, ◌⊎◌, ◌++◌, ◌∷◌, [], ℕ, List, Option, Some, None, Ok, Err, inl, inr, refl, sym, ap, ap₂, ◌∙◌, subst}
 use Rattle.program.specs.declared.limits.Limits.{Limits}
-use Rattle.program.specs.declared.question.Question.TheVariants.{Names}
-use Rattle.program.specs.declared.question.Related.TheVariants.{Equivalents}
 use Rattle.program.specs.declared.status.Status.{Status}
 use Rattle.program.specs.declared.status.Status.TheVariants as statuses
 use Rattle.program.specs.declared.version.Version.{Version}
@@ -10,9 +8,9 @@ use Rattle.profile.specs.Messages.{status_of}
 use Rattle.profile.specs.declared.fault.DocumentFault.{DocumentFault}
 use Rattle.profile.specs.declared.fault.DocumentFault.TheVariants as reading
 use Rattle.session.proofs.Calls.{edits_are_one_document}
-use Rattle.session.specs.Devices.{Device}
+use Rattle.telling.specs.Devices.{Device}
 use Rattle.session.specs.Edits as calls
-use Rattle.session.specs.Edits.{Call, Reply, Add, Added, Resumed, Answered, Found, Written, Inferred, AreCalls, IsCall, IsOneDocument, IsSessionOver, added}
+use Rattle.session.specs.Edits.{Call, Reply, Add, Added, Resumed, Answered, Found, Decided, Written, Inferred, AreCalls, IsCall, IsOneDocument, IsSessionOver, added}
 use Rattle.session.specs.Sessions.{IsSession, Opened}
 use Rattle.session.specs.declared.question_fault.QuestionFault.TheVariants as faults
 use Rattle.speech.specs.Answers.{IsAnswerTold, IsFaultTold, IsStep, run_end, session_service}
@@ -53,7 +51,7 @@ refused limits size payload fault t (inl h) = told_as size payload t.status (sta
 refused limits size payload fault t (inr none) = told_as size payload t.status statuses.Memory (ap (λ (x : Told). x.status) none)
 
 add_tells : (limits : Limits) (size : ℕ) (payload : List ℕ) (old new : Opened) (t : Told) (reply : Reply) → IsCall old (Add payload) reply new
-    → IsAnswerTold limits (Add payload) new reply t ⊎ ((added (Add payload) reply ≡ []) × (t ≡ out_of_memory)) → added (Add payload) reply ≡ told_added (Some (asked.Add size)) t.status payload
+    → IsAnswerTold limits reply t ⊎ ((added (Add payload) reply ≡ []) × (t ≡ out_of_memory)) → added (Add payload) reply ≡ told_added (Some (asked.Add size)) t.status payload
 add_tells limits size payload old new t (Added (Ok made)) h (inl tells) = sym (told_as size payload t.status statuses.Done (ap (λ (x : Told). x.status) tells))
 add_tells limits size payload old new t (Added (Ok made)) h (inr (none, is)) = absurd (cc)
 add_tells limits size payload old new t (Added (Err fault)) h (inl tells) = sym (refused limits size payload fault t (inl tells))
@@ -61,6 +59,7 @@ add_tells limits size payload old new t (Added (Err fault)) h (inr (none, is)) =
 add_tells limits size payload old new t (Resumed answer) h told = absurd h
 add_tells limits size payload old new t (Answered answer) h told = absurd h
 add_tells limits size payload old new t (Found answer) h told = absurd h
+add_tells limits size payload old new t (Decided answer) h told = absurd h
 add_tells limits size payload old new t (Written after answer) h told = absurd h
 add_tells limits size payload old new t (Inferred answer) h told = absurd h
 
@@ -68,16 +67,15 @@ add_tells limits size payload old new t (Inferred answer) h told = absurd h
 pub does : (limits : Limits) (old new : Opened) (command : Command) (payload : List ℕ) (t : Told) → IsStep limits old command payload t new → Does old (told_added (Some command) t.status payload) new
 does limits old new (asked.Add size) payload t (inl h) = Calls (Add payload) h.reply h.called (add_tells limits size payload old new t h.reply h.called h.answer)
 does limits old new (asked.Add size) payload t (inr (at, none, valid, said)) = Stays said.0 (refused limits size payload (reading.NotUtf8 at) t said.1)
-does limits old new asked.Run payload t h = Calls (calls.Resume limits.max_facts) h.reply h.called refl
+does limits old new asked.Run payload t h = Calls (calls.Resume limits.max_facts) (Resumed h.result) h.called refl
 does limits old new (asked.RunSome more) payload t h = Calls (calls.Resume (run_end limits old more)) (Resumed h.result) h.called refl
-does limits old new (asked.Ask question) payload t h = Calls (calls.Ask question) h.reply h.called refl
+does limits old new (asked.Ask question spelling) payload t h = Calls (calls.Ask question) (Answered h.result) h.called refl
 does limits old new (asked.Query size) payload t (inl h) = Calls (calls.Query payload limits.max_facts) h.reply h.called refl
 does limits old new (asked.Query size) payload t (inr (at, none, valid, said)) = Stays said.0 refl
 does limits old new (asked.Write paths) payload t (same, told) = Stays same refl
 does limits old new (asked.Infer path) payload t (same, told) = Stays same refl
-does limits old new (asked.Axiom number) payload t (same, told) = Stays same refl
+does limits old new (asked.Axiom number spelling) payload t (same, told) = Stays same refl
 does limits old new asked.Status payload t (same, told) = Stays same refl
-does limits old new asked.Unsatisfiable payload t (class, is, h) = Calls (calls.Ask (Names Equivalents class)) h.reply h.called refl
 does limits old new asked.Version payload t (same, told) = Stays same refl
 
 -- nothing was done
@@ -95,13 +93,12 @@ passed_adds room None payload = refl
 passed_adds room (Some (asked.Add size)) payload = refl
 passed_adds room (Some asked.Run) payload = refl
 passed_adds room (Some (asked.RunSome more)) payload = refl
-passed_adds room (Some (asked.Ask question)) payload = refl
+passed_adds room (Some (asked.Ask question spelling)) payload = refl
 passed_adds room (Some (asked.Query size)) payload = refl
 passed_adds room (Some (asked.Write paths)) payload = refl
 passed_adds room (Some (asked.Infer path)) payload = refl
-passed_adds room (Some (asked.Axiom number)) payload = refl
+passed_adds room (Some (asked.Axiom number spelling)) payload = refl
 passed_adds room (Some asked.Status) payload = refl
-passed_adds room (Some asked.Unsatisfiable) payload = refl
 passed_adds room (Some asked.Version) payload = refl
 
 pub passed_adds_none : (room : ℕ) (command : Option Command) (payload : List ℕ) (t : Told) → t ≡ too_large room → told_added command t.status payload ≡ []

@@ -4,8 +4,8 @@ use Rattle.std.specs.List.{flat_map}
 use Rattle.std.proofs.KnownBytes.{Appends-nil, Appends-trans}
 use Rattle.std.proofs.lemmas.Grind.{flat_map-append}
 use Rattle.source_lines.specs.Sources.{SourceState}
-use Rattle.session.proofs.Pieces.{begun, failed}
-use Rattle.session.specs.Devices.{Device, FailsIn, Takes}
+use Rattle.telling.proofs.Joined.{begun, failed}
+use Rattle.telling.specs.Devices.{Device, FailsIn, Takes}
 use Rattle.speech.proofs.Coming.{comes_more, comes_none}
 use Rattle.speech.specs.Conversations.{AreExchanges, AreTurns, Comes, Exchange, IsConversation, IsExchange, IsLastTurn, Point, point, text_asked, text_told, told_of}
 use Rattle.speech.specs.Replies.{reply_text}

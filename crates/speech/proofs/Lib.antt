@@ -1,4 +1,5 @@
 pub mod Splitting
+pub mod Asking
 pub mod Beginnings
 pub mod Coming
 pub mod Replying

@@ -4,7 +4,7 @@ use Rattle.std.specs.Prelude.{codes}
 use Rattle.std.specs.Fmt.{decimal}
 use Rattle.program.specs.Status.{code_of}
 use Rattle.program.specs.declared.status.Status.TheVariants as statuses
-use Rattle.speech.specs.Messages.{more_bytes}
+use Rattle.telling.specs.Messages.{more_bytes}
 use Rattle.speech.specs.Replies.{reply_text, too_large}
 
 -- that there is no room for the bytes behind a command

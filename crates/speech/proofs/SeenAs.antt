@@ -1,7 +1,7 @@
 -- A conversation with a service that is seen as another.
 use Rattle.std.proofs.Common.{◌∷◌, [], List, inl, inr, sym, ap, subst}
 use Rattle.source_lines.specs.Sources.{SourceState}
-use Rattle.session.specs.Devices.{Device}
+use Rattle.telling.specs.Devices.{Device}
 use Rattle.speech.specs.Conversations.{AreTurns, Exchange, IsConversation, IsExchange, IsLastTurn, IsTurnedDown, Point, point}
 use Rattle.speech.specs.declared.conversation.Ending.{Ending}
 use Rattle.speech.specs.declared.conversation.Ending.TheVariants as endings

@@ -21,7 +21,7 @@ pub one_word : (line : List ℕ) → IsSplitOnceResult 32 line None → split_wo
 one_word line h = slice_split_none (λ b. eqb b 32) line (no_space line (split_parts 32 line None h (lit< tt)))
 
 -- else the first word stands before the first space
-first_word : (line : List ℕ) (x : Bor (List ℕ) × Bor (List ℕ)) → IsSplitOnceResult 32 line (Some x) → split_words line ≡ x.0.now ∷ split_words x.1.now
+pub first_word : (line : List ℕ) (x : Bor (List ℕ) × Bor (List ℕ)) → IsSplitOnceResult 32 line (Some x) → split_words line ≡ x.0.now ∷ split_words x.1.now
 first_word line x h =
     let parts = split_parts 32 line (Some x) h (lit< tt) in
     ap split_words parts.0 ∙ slice_split_at (λ b. eqb b 32) x.0.now 32 x.1.now (no_space x.0.now parts.1) refl
@@ -34,12 +34,6 @@ some_part : (parts : List (List ℕ)) (n : ℕ) → length parts ≡ n + 1 → (
 some_part [] n e = absurd (omega (arith, e))
 some_part (word ∷ rest) n e = (word, rest, refl)
 
-some_word : (line : List ℕ) → (word : List ℕ) × (rest : List (List ℕ)) × (split_words line ≡ word ∷ rest)
-some_word line = some_part (split_words line) _ (length-slice_split (λ b. eqb b 32) line)
-
 -- of which there is one
-pub two_words : (line : List ℕ) (x : Bor (List ℕ) × Bor (List ℕ)) → IsSplitOnceResult 32 line (Some x)
-    → (word : List ℕ) × (next : List ℕ) × (rest : List (List ℕ)) × (split_words line ≡ word ∷ next ∷ rest)
-two_words line x h =
-    let more = some_word x.1.now in
-    (x.0.now, more.0, more.1, next_word line x (more.0 ∷ more.1) h more.2)
+pub some_word : (line : List ℕ) → (word : List ℕ) × (rest : List (List ℕ)) × (split_words line ≡ word ∷ rest)
+some_word line = some_part (split_words line) _ (length-slice_split (λ b. eqb b 32) line)

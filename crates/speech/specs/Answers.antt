@@ -1,12 +1,10 @@
 -- What is told of the calls of a session.
-use Rattle.std.specs.Prelude.{◌≡◌, ◌++◌, ◌+◌, ◌-◌, ◌<◌, ◌⊎◌, ℕ, List, [], Option, Some, None, Result, Ok, Err, codes, length, min, option_map}
+use Rattle.std.specs.Prelude.{◌≡◌, ◌++◌, ◌+◌, ◌-◌, ◌<◌, ◌⊎◌, ℕ, List, [], Bool, true, false, Option, Some, None, Result, Ok, Err, codes, length, min, option_map}
 use Rattle.std.specs.Fmt.{decimal}
 use Rattle.std.specs.Str.{IsUtf8, IsValidUpTo}
-use Rattle.std.specs.Borrow.{Bor}
 use Rattle.std.specs.Global.{Vec}
 use Rattle.answer_texts.specs.Axioms.{axiom_line}
 use Rattle.answers.specs.declared.answer.Answer.{Answer}
-use Rattle.axioms.specs.Expression.{owl_nothing}
 use Rattle.axioms.specs.Ontology.{Ontology}
 use Rattle.axioms.specs.View.{at_number}
 use Rattle.inference.specs.declared.known_facts.Stop.{Stop}
@@ -14,13 +12,14 @@ use Rattle.inference.specs.declared.known_facts.Stop.TheVariants as stops
 use Rattle.profile.specs.declared.fault.DocumentFault.TheVariants.{NotUtf8}
 use Rattle.program.specs.declared.limits.Limits.{Limits}
 use Rattle.program.specs.declared.question.Question.{Question}
-use Rattle.program.specs.declared.question.Question.TheVariants.{Names}
-use Rattle.program.specs.declared.question.Related.TheVariants.{Equivalents}
+use Rattle.program.specs.declared.question.Spelling.{Spelling}
+use Rattle.program.specs.declared.release.TheConstants.{VERSION}
 use Rattle.program.specs.declared.status.Status.TheVariants as statuses
-use Rattle.session.specs.Edits.{Call, Reply, Add, Resume, Ask, Query, Added, Resumed, Answered, Found, Written, Inferred, IsCall, added}
+use Rattle.session.specs.Answers.{IsConsistency}
+use Rattle.session.specs.Edits.{Call, Reply, Add, Resume, Ask, Query, Added, Resumed, Answered, Found, IsCall, added}
 use Rattle.session.specs.Queries.{NamesFound, names_in}
 use Rattle.session.specs.Sessions.{IsSession, Opened}
-use Rattle.session.specs.TextAnswers.{IsAnswerText, query_lines}
+use Rattle.session.specs.TextAnswers.{IsSpelledAnswer, query_lines}
 use Rattle.session.specs.declared.fault.AskFault.{AskFault}
 use Rattle.session.specs.declared.fault.AskFault.TheVariants as asking
 use Rattle.session.specs.declared.querying.Answers.{Answers}
@@ -28,6 +27,7 @@ use Rattle.session.specs.declared.query_fault.QueryFault.{QueryFault}
 use Rattle.session.specs.declared.query_fault.QueryFault.TheVariants as querying
 use Rattle.session.specs.declared.question_fault.QuestionFault.{QuestionFault}
 use Rattle.session.specs.declared.question_fault.QuestionFault.TheVariants as faults
+use Rattle.short_names.specs.Spellings.{IsSpelled}
 use Rattle.speech.specs.Messages.{IsQuestionText, question_status}
 use Rattle.speech.specs.Replies.{Told, out_of_memory, told}
 use Rattle.speech.specs.declared.command.Command as commands
@@ -76,10 +76,10 @@ IsQueryTold limits (querying.Expression fault) t = IsFaultTold limits (faults.Ex
 IsQueryTold limits querying.Limit t = IsFaultTold limits faults.Limit t
 IsQueryTold limits querying.Memory t = t ≡ out_of_memory
 
--- what is told of the answer to a question, or where there is none
-abbrev pub IsAnsweredTold : Limits → Ontology → Question → Result Answer AskFault → Told → Type 0
-IsAnsweredTold limits o question (Ok answer) t = IsAnswerText o question answer t.text × (t.status ≡ statuses.Done)
-IsAnsweredTold limits o question (Err fault) t = IsAskTold limits fault t
+-- what is told of the answer to a question, with names that are spelled so, or where there is none
+abbrev pub IsAnsweredTold : Limits → Opened → Question → Spelling → Result Answer AskFault → Told → Type 0
+IsAnsweredTold limits s question spelling (Ok answer) t = IsSpelledAnswer s.prefixes spelling s.ontology question answer t.text × (t.status ≡ statuses.Done)
+IsAnsweredTold limits s question spelling (Err fault) t = IsAskTold limits fault t
 
 -- and of the names of a class expression
 abbrev pub IsFoundTold : Limits → Result NamesFound QueryFault → Told → Type 0
@@ -91,9 +91,14 @@ abbrev pub found : Result Answers QueryFault → Result NamesFound QueryFault
 found (Ok answers) = Ok (names_in answers)
 found (Err fault) = Err fault
 
--- the lines of the counts
-abbrev pub run_text : Opened → List ℕ
-run_text s = codes "facts " ++ (decimal (length s.saturation.state.facts) ++ codes "\n")
+-- whether the axioms hold in some finite interpretation, as a word
+abbrev pub consistency : Bool → List ℕ
+consistency true = codes "consistent"
+consistency false = codes "inconsistent"
+
+-- the lines of the counts, and of that word
+abbrev pub run_text : Opened → (consistent : Bool) → List ℕ
+run_text s consistent = codes "facts " ++ (decimal (length s.saturation.state.facts) ++ (codes "\n" ++ (consistency consistent ++ codes "\n")))
 
 abbrev pub status_text : Opened → List ℕ
 status_text s =
@@ -103,22 +108,29 @@ status_text s =
 abbrev pub stop_text : Opened → List ℕ
 stop_text s = codes "facts " ++ (decimal (length s.saturation.state.facts) ++ (codes " served " ++ (decimal (length s.saturation.state.served) ++ codes "\n")))
 
--- the version of the program
-abbrev pub program_version : List ℕ
-program_version = codes "0.9.0"
-
 -- the lines of the versions of the language and of the program
 abbrev pub version_text : List ℕ
-version_text = codes "elc session 1\nelc " ++ (program_version ++ codes "\n")
+version_text = codes "elc session 1\nelc " ++ (VERSION.now ++ codes "\n")
 
 -- the line of the axiom of that number, if there is one
 abbrev pub axiom_at : Ontology → (number : ℕ) → Option (List ℕ)
 axiom_at o number = option_map (axiom_line o) (at_number o.axioms number)
 
--- what is told of it
-abbrev pub axiom_told : (number : ℕ) → Option (List ℕ) → Told
-axiom_told number (Some line) = done line
-axiom_told number None = told statuses.Usage (codes "no axiom " ++ (decimal number ++ codes "\n"))
+-- that there is none
+abbrev pub no_axiom_told : (number : ℕ) → Told
+no_axiom_told number = told statuses.Usage (codes "no axiom " ++ (decimal number ++ codes "\n"))
+
+-- what is told of it, with names that are spelled so, or that there is none
+abbrev pub IsLineTold : Opened → Spelling → (number : ℕ) → Option (List ℕ) → Told → Type 0
+IsLineTold s spelling number (Some line) t = IsSpelled spelling s.prefixes false line t.text × (t.status ≡ statuses.Done)
+IsLineTold s spelling number None t = t ≡ no_axiom_told number
+
+abbrev pub IsAxiomTold : Opened → (number : ℕ) → Spelling → Told → Type 0
+IsAxiomTold s number spelling t = IsLineTold s spelling number (axiom_at s.ontology number) t
+
+-- what is told of a run that came to its end: how many facts there are, and whether the axioms contradict one another
+abbrev pub IsEndTold : Opened → Told → Type 0
+IsEndTold s t = (consistent : Bool) × IsConsistency s.ontology consistent × (t ≡ done (run_text s consistent))
 
 -- what is told where a run stopped at so many facts: that this is the limit, or below it the counts
 abbrev pub IsStopTold : Limits → (end : ℕ) → Opened → Told → Type 0
@@ -126,22 +138,16 @@ IsStopTold limits end s t = ((end ≡ limits.max_facts) × IsFaultTold limits fa
 
 -- what is told of a run that may go on to so many facts
 abbrev pub IsRunTold : Limits → (end : ℕ) → Opened → Result (Unit {0}) Stop → Told → Type 0
-IsRunTold limits end s (Ok _) t = t ≡ done (run_text s)
+IsRunTold limits end s (Ok _) t = IsEndTold s t
 IsRunTold limits end s (Err stops.Limit) t = IsStopTold limits end s t
 IsRunTold limits end s (Err stops.Memory) t = t ≡ out_of_memory
 
--- what is told of a call's answer by the session, which then has the other ontology and facts
-abbrev pub IsAnswerTold : Limits → Call → Opened → Reply → Told → Type 0
-IsAnswerTold limits call s (Added (Ok _)) t = t ≡ done []
-IsAnswerTold limits call s (Added (Err fault)) t = IsFaultTold limits (faults.Expression fault) t
-IsAnswerTold limits call s (Resumed (Ok _)) t = t ≡ done (run_text s)
-IsAnswerTold limits call s (Resumed (Err stops.Limit)) t = IsFaultTold limits faults.Limit t
-IsAnswerTold limits call s (Resumed (Err stops.Memory)) t = t ≡ out_of_memory
-IsAnswerTold limits (Ask question) s (Answered answer) t = IsAnsweredTold limits s.ontology question answer t
-IsAnswerTold limits call s (Answered answer) t = ⊥
-IsAnswerTold limits call s (Found answer) t = IsFoundTold limits answer t
-IsAnswerTold limits call s (Written after answer) t = ⊥
-IsAnswerTold limits call s (Inferred answer) t = ⊥
+-- what is told of an addition, and of the names of a class expression
+abbrev pub IsAnswerTold : Limits → Reply → Told → Type 0
+IsAnswerTold limits (Added (Ok _)) t = t ≡ done []
+IsAnswerTold limits (Added (Err fault)) t = IsFaultTold limits (faults.Expression fault) t
+IsAnswerTold limits (Found answer) t = IsFoundTold limits answer t
+IsAnswerTold limits reply t = ⊥
 
 -- ---- what is done
 
@@ -149,7 +155,7 @@ IsAnswerTold limits call s (Inferred answer) t = ⊥
 pub record IsCalled (limits : Limits) (call : Call) (old : Opened) (t : Told) (new : Opened) : Type 0 where
   pub reply : Reply
   pub called : IsCall old call reply new
-  pub answer : IsAnswerTold limits call new reply t ⊎ ((added call reply ≡ []) × (t ≡ out_of_memory))
+  pub answer : IsAnswerTold limits reply t ⊎ ((added call reply ≡ []) × (t ≡ out_of_memory))
 
 -- up to how many facts a run goes on that may draw so many more than there are, within the limit
 abbrev pub run_end : Limits → Opened → (more : ℕ) → ℕ
@@ -161,9 +167,11 @@ pub record IsRunTo (limits : Limits) (end : ℕ) (old : Opened) (t : Told) (new 
   pub called : IsCall old (Resume end) (Resumed result) new
   pub answer : IsRunTold limits end new result t ⊎ (t ≡ out_of_memory)
 
--- the question for the classes that have no instance in any interpretation: those that are the same as `owl:Nothing`
-abbrev pub IsCalledForEmpty : Limits → (old : Opened) → Told → (new : Opened) → Type 0
-IsCalledForEmpty limits old t new = (class : Bor (List ℕ)) × (class.now ≡ owl_nothing) × IsCalled limits (Ask (Names Equivalents class)) old t new
+-- the question is asked of the session, and its answer is told with names that are spelled so
+pub record IsAsked (limits : Limits) (question : Question) (spelling : Spelling) (old : Opened) (t : Told) (new : Opened) : Type 0 where
+  pub result : Result Answer AskFault
+  pub called : IsCall old (Ask question) (Answered result) new
+  pub answer : IsAnsweredTold limits new question spelling result t ⊎ (t ≡ out_of_memory)
 
 -- nothing is done, and this is told, or that there was no memory for it
 abbrev pub IsSaid : (Told → Type 0) → (old : Opened) → Told → (new : Opened) → Type 0
@@ -178,15 +186,14 @@ IsTextCalled limits call payload old t new =
 -- what a command does to a session, and what is told
 abbrev pub IsStep : Limits → (old : Opened) → commands.Command → (payload : List ℕ) → Told → (new : Opened) → Type 0
 IsStep limits old (asked.Add size) payload t new = IsTextCalled limits Add payload old t new
-IsStep limits old asked.Run payload t new = IsCalled limits (Resume limits.max_facts) old t new
+IsStep limits old asked.Run payload t new = IsRunTo limits limits.max_facts old t new
 IsStep limits old (asked.RunSome more) payload t new = IsRunTo limits (run_end limits old more) old t new
-IsStep limits old (asked.Ask question) payload t new = IsCalled limits (Ask question) old t new
+IsStep limits old (asked.Ask question spelling) payload t new = IsAsked limits question spelling old t new
 IsStep limits old (asked.Query size) payload t new = IsTextCalled limits (λ text. Query text limits.max_facts) payload old t new
 IsStep limits old (asked.Write paths) payload t new = IsSaid (λ t. t ≡ unfiled) old t new
 IsStep limits old (asked.Infer path) payload t new = IsSaid (λ t. t ≡ unfiled) old t new
-IsStep limits old (asked.Axiom number) payload t new = IsSaid (λ t. t ≡ axiom_told number (axiom_at old.ontology number)) old t new
+IsStep limits old (asked.Axiom number spelling) payload t new = IsSaid (IsAxiomTold old number spelling) old t new
 IsStep limits old asked.Status payload t new = IsSaid (λ t. t ≡ done (status_text old)) old t new
-IsStep limits old asked.Unsatisfiable payload t new = IsCalledForEmpty limits old t new
 IsStep limits old asked.Version payload t new = IsSaid (λ t. t ≡ done version_text) old t new
 
 -- the same of a session with its limits, which stay

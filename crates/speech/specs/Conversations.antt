@@ -7,7 +7,7 @@ use Rattle.program.specs.declared.status.Status.{Status}
 use Rattle.program.specs.declared.status.Status.TheVariants as statuses
 use Rattle.source_lines.specs.Sources.{SourceState, Gives, IsReadOn}
 use Rattle.speech.specs.Commands.{IsNoCommand, Spells, payload_size}
-use Rattle.session.specs.Devices.{Device, FailsIn, Takes}
+use Rattle.telling.specs.Devices.{Device, FailsIn, Takes}
 use Rattle.speech.specs.Replies.{Told, reply_text, told, too_large, unknown_command}
 use Rattle.speech.specs.declared.command.Command.{Command}
 use Rattle.speech.specs.declared.conversation.Ending.{Ending}

@@ -4,7 +4,7 @@ use Rattle.std.specs.List.{flat_map}
 use Rattle.program.specs.declared.status.Status.{Status}
 use Rattle.program.specs.declared.status.Status.TheVariants as statuses
 use Rattle.program.specs.declared.version.Version.{Version}
-use Rattle.session.specs.Devices.{Device}
+use Rattle.telling.specs.Devices.{Device}
 use Rattle.session.specs.Edits.{Call, Reply, AreCalls, IsOneDocument, IsSessionOver, accepted}
 use Rattle.session.specs.Sessions.{Opened}
 use Rattle.source_lines.specs.Sources.{SourceState}

@@ -4,7 +4,7 @@ use Rattle.std.specs.Fmt.{decimal}
 use Rattle.program.specs.Status.{code_of}
 use Rattle.program.specs.declared.status.Status.{Status}
 use Rattle.program.specs.declared.status.Status.TheVariants as statuses
-use Rattle.speech.specs.Messages.{more_bytes}
+use Rattle.telling.specs.Messages.{more_bytes}
 use Rattle.speech.specs.declared.reply.Reply.{Reply}
 
 -- a status, and a text

@@ -3,7 +3,7 @@ use Rattle.std.specs.Prelude.{◌≡◌, ◌<◌, ◌≤◌, ℕ, List, [], Opti
 use Rattle.source_lines.specs.Sources.{SourceState}
 use Rattle.speech.specs.Commands.{IsNoCommand, Spells, payload_size}
 use Rattle.speech.specs.Conversations.{ComesLine, ComesPayload, Exchange, Follows, HasNoSize, HasPayload, IsLast, IsLastTurn, IsTurn, IsTurnedDown, LacksLine, LacksPayload, Point, status_of, text_told, told_of}
-use Rattle.session.specs.Devices.{Device, FailsIn, Takes}
+use Rattle.telling.specs.Devices.{Device, FailsIn, Takes}
 use Rattle.program.specs.declared.status.Status.{Status}
 use Rattle.program.specs.declared.status.Status.TheVariants as statuses
 use Rattle.speech.specs.Replies.{Told, reply_text, too_large, unknown_command}

@@ -1,7 +1,7 @@
 -- A conversation as a whole: what was read, and what was written.
 use Rattle.std.specs.Prelude.{◌≡◌, ◌⊎◌, ◌++◌, ℕ, List, []}
 use Rattle.std.specs.List.{flat_map}
-use Rattle.session.specs.Devices.{Device, FailsIn, Takes}
+use Rattle.telling.specs.Devices.{Device, FailsIn, Takes}
 use Rattle.source_lines.specs.Sources.{SourceState}
 use Rattle.speech.specs.Conversations.{AreExchanges, Comes, Exchange, IsLast, IsRefused, text_asked, text_told, told_of}
 use Rattle.speech.specs.Replies.{reply_text}

@@ -1,17 +1,13 @@
 //! What a session answers, as replies.
-ghost use Rattle.answers.specs.Questions.{IsAnswerTo};
-ghost use Rattle.speech.specs.Answers.{IsAnsweredTold, IsAskTold, IsDoneWith, IsFaultTold, IsFoundTold, IsQueryTold, Tells, found, unfiled, unfinished};
-ghost use Rattle.std.specs.Prelude.{◌≡◌, IfOk};
+ghost use Rattle.speech.specs.Answers.{IsAskTold, IsDoneWith, IsFaultTold, IsFoundTold, IsQueryTold, Tells, consistency as word_of, found, unfiled, unfinished};
+ghost use Rattle.std.specs.Prelude.{◌≡◌};
 
 use crate::messages::question_message;
 use crate::reply::Reply;
-use axioms::Ontology;
 use device::Memory;
 use profile::Limits;
-use program::{Question, Status};
-use session::{
-    Answer, Answers, AskFault, QueryFault, QuestionFault, answer_text, lines_of_answers,
-};
+use program::Status;
+use session::{Answers, AskFault, QueryFault, QuestionFault, lines_of_answers};
 use std::alloc::Global;
 
 /// The reply that a command is done, with its answer.
@@ -26,12 +22,23 @@ pub(crate) fn done_reply(text: Vec<u8>) -> Reply
 }
 
 /// The same, where there was memory for the answer.
-fn done_with(text: Result<Vec<u8>, Memory>) -> Result<Reply, Memory>
+pub(crate) fn done_with(text: Result<Vec<u8>, Memory>) -> Result<Reply, Memory>
     ensures { Tells (IsDoneWith text) result }
 {
     match text {
         Ok(text) => Ok(done_reply(text)),
         Err(_) => Err(Memory),
+    }
+}
+
+/// Whether axioms have an interpretation, as a word.
+pub fn consistency(consistent: bool) -> &'static str
+    ensures { result.now ≡ word_of consistent }
+{
+    if consistent {
+        "consistent"
+    } else {
+        "inconsistent"
     }
 }
 
@@ -79,7 +86,11 @@ pub(crate) fn unfiled_reply(alloc: Global) -> Result<Reply, Memory>
 }
 
 /// The reply to a question about names that is not answered.
-fn ask_reply(alloc: Global, limits: &Limits, fault: AskFault<'_>) -> Result<Reply, Memory>
+pub(crate) fn ask_reply(
+    alloc: Global,
+    limits: &Limits,
+    fault: AskFault<'_>,
+) -> Result<Reply, Memory>
     ensures { Tells (IsAskTold limits.now fault.entry) result }
 {
     match fault {
@@ -102,23 +113,6 @@ fn query_reply(alloc: Global, limits: &Limits, fault: QueryFault) -> Result<Repl
         }
         QueryFault::Limit => fault_reply(alloc, limits, &QuestionFault::Limit),
         QueryFault::Memory => Err(Memory),
-    }
-}
-
-/// The reply with the answer to a question, or why there is none.
-pub(crate) fn answered_reply(
-    alloc: Global,
-    limits: &Limits,
-    ontology: &Ontology,
-    question: Question<'_>,
-    answer: Result<Answer<'_>, AskFault<'_>>,
-) -> Result<Reply, Memory>
-    requires { IfOk answer (IsAnswerTo ontology.now question) }
-    ensures { Tells (IsAnsweredTold limits.now ontology.now question.entry answer.entry) result }
-{
-    match answer {
-        Ok(answer) => done_with(answer_text(alloc, ontology, question, &answer)),
-        Err(fault) => ask_reply(alloc, limits, fault),
     }
 }
 

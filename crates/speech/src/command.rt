@@ -2,7 +2,7 @@
 ghost use Rattle.speech.specs.Commands.{payload_size, writing_of};
 ghost use Rattle.std.specs.Prelude.{◌≡◌};
 
-use program::Question;
+use program::{Question, Spelling};
 
 /// The paths of the files of the three texts of a classification.
 #[derive(Clone, Copy, PartialEq, Eq)]
@@ -30,20 +30,18 @@ pub enum Command<'l> {
     Run,
     /// To find out what follows, as far as so many facts more than there are.
     RunSome(u32),
-    /// To answer the question.
-    Ask(Question<'l>),
+    /// To answer the question, with names that are spelled so.
+    Ask(Question<'l>, Spelling),
     /// The names of the class expression of a text of so many bytes.
     Query(u64),
     /// To write the texts of the classification into files.
     Write(TextPaths<'l>),
     /// To write what follows from the axioms into the file at the path, as a document.
     Infer(&'l str),
-    /// The axiom of that number, counted from 1 as explanations cite it.
-    Axiom(u64),
+    /// The axiom of that number, counted from 1 as explanations cite it, with names that are spelled so.
+    Axiom(u64, Spelling),
     /// How many facts there are, how many are served, and how many bytes.
     Status,
-    /// The classes that have no instance in any interpretation.
-    Unsatisfiable,
     /// Of which version the language and the program are.
     Version,
 }

@@ -1,11 +1,12 @@
 //! Lines that are commands.
-ghost use Rattle.speech.specs.Commands.{IsCommandOf, IsQuestionOf, IsSubjectOf, Spells, SpellsNothing, reached_words};
-ghost use Rattle.std.specs.Prelude.{◌∷◌, [], IfNone, IfSome};
+ghost use Rattle.speech.specs.Commands.{AsksOfTwo, IsCommandAmong, IsCommandOf, IsConditionedOf, IsQuestionOf, IsSubjectOf, Spells, SpellsNothing, option_words, split_words};
+ghost use Rattle.std.specs.Prelude.{◌∷◌, [], codes, IfNone, IfSome};
 
 use crate::command::{Command, TextPaths};
+use crate::options::{NO_OPTIONS, Options, options_in};
 use crate::sizes::{count_of_word, size_of_word};
 use crate::words::{Words, words_in};
-use program::{Asked, Question, Related, Shown, Side};
+use program::{Asked, Question, Related, Shown, Side, Spelling};
 
 /// How many bytes a line has at most, before its line feed.
 pub const MOST_LINE: usize = 4096;
@@ -17,21 +18,27 @@ fn command_alone(verb: &str) -> Option<Command<'static>>
     match verb {
         "run" => Some(Command::Run),
         "status" => Some(Command::Status),
-        "unsatisfiable" => Some(Command::Unsatisfiable),
+        "unsatisfiable" => Some(Command::Ask(Question::Unsatisfiable, Spelling::Full)),
         "version" => Some(Command::Version),
         _ => None,
     }
 }
 
-/// The question about a class that the verb asks.
-fn question_of_class<'l>(verb: &str, class: &'l str) -> Option<Question<'l>>
-    ensures { IsQuestionOf (verb.now ∷ class.now ∷ []) result }
+/// The question about one name that the verb asks.
+fn question_of_name<'l>(verb: &str, name: &'l str) -> Option<Question<'l>>
+    ensures { IsQuestionOf (verb.now ∷ name.now ∷ []) result }
 {
     if let Some(related) = Related::of_word(verb) {
-        return Some(Question::Names(related, class));
+        return Some(Question::Names(related, name));
     }
-    let side = Side::of_word(verb)?;
-    Some(Question::Groups(side, class))
+    if let Some(side) = Side::of_word(verb) {
+        return Some(Question::Groups(side, name));
+    }
+    match verb {
+        "types" => Some(Question::Types(name)),
+        "direct-types" => Some(Question::DirectTypes(name)),
+        _ => None,
+    }
 }
 
 /// The command of two words.
@@ -42,13 +49,16 @@ fn command_with_word<'l>(verb: &str, word: &'l str) -> Option<Command<'l>>
         "add" => Some(Command::Add(size_of_word(word)?)),
         "query" => Some(Command::Query(size_of_word(word)?)),
         "run" => Some(Command::RunSome(count_of_word(word)?)),
-        "axiom" => Some(Command::Axiom(size_of_word(word)?)),
+        "axiom" => Some(Command::Axiom(size_of_word(word)?, Spelling::Full)),
         "infer" => Some(Command::Infer(word)),
-        _ => Some(Command::Ask(question_of_class(verb, word)?)),
+        "unsatisfiable" if word == "short" => {
+            Some(Command::Ask(Question::Unsatisfiable, Spelling::Short))
+        }
+        _ => Some(Command::Ask(question_of_name(verb, word)?, Spelling::Full)),
     }
 }
 
-/// Whether a class is asked of or an individual, and whether a graph is wanted, by the verb.
+/// Whether it is asked why a class or an individual is in a class, and whether as a graph, by the verb.
 fn subject_of<'l>(verb: &str, subject: &'l str) -> Option<(Asked<'l>, bool)>
     ensures { IsSubjectOf verb.now subject.now result }
 {
@@ -61,49 +71,99 @@ fn subject_of<'l>(verb: &str, subject: &'l str) -> Option<(Asked<'l>, bool)>
     }
 }
 
-/// The question whether, and why, the subject is in the class, that the verb asks.
-fn question_of_subject<'l>(
+/// Whether the conditions of a class or of an individual are asked for, by the verb.
+fn conditioned_of<'l>(verb: &str, subject: &'l str) -> Option<Asked<'l>>
+    ensures { IsConditionedOf verb.now subject.now result }
+{
+    match verb {
+        "lacks" => Some(Asked::Class(subject)),
+        "lacks-individual" => Some(Asked::Individual(subject)),
+        _ => None,
+    }
+}
+
+/// The command that asks about the subject and the class, with these options.
+fn ask_of_two<'l>(
     verb: &str,
     subject: &'l str,
     class: &'l str,
-    reached: bool,
-) -> Option<Question<'l>>
-    ensures { IsQuestionOf (verb.now ∷ subject.now ∷ class.now ∷ reached_words reached) result }
+    options: Options,
+) -> Option<Command<'l>>
+    ensures { IsCommandAmong AsksOfTwo (verb.now ∷ subject.now ∷ class.now ∷ option_words options) result }
 {
-    let (asked, graph) = subject_of(verb, subject)?;
-    let shown = Shown { graph, reached };
-    Some(Question::Why(asked, class, shown))
+    let Options {
+        reached,
+        axioms,
+        spelling,
+    } = options;
+    if let Some((asked, graph)) = subject_of(verb, subject) {
+        let shown = Shown {
+            graph,
+            reached,
+            axioms,
+        };
+        return Some(Command::Ask(Question::Why(asked, class, shown), spelling));
+    }
+    if reached || axioms {
+        return None;
+    }
+    let asked = conditioned_of(verb, subject)?;
+    Some(Command::Ask(Question::Lacks(asked, class), spelling))
+}
+
+/// The command of two words and of the word `short` behind them, where these ask no question about a subject and a class.
+fn command_in_short<'l>(verb: &str, word: &'l str) -> Option<Command<'l>>
+    ensures { IsCommandAmong (λ command. ¬ AsksOfTwo command) (verb.now ∷ word.now ∷ codes "short" ∷ []) result }
+{
+    if verb == "axiom" {
+        Some(Command::Axiom(size_of_word(word)?, Spelling::Short))
+    } else {
+        Some(Command::Ask(question_of_name(verb, word)?, Spelling::Short))
+    }
 }
 
 /// The command of three words.
 fn command_with_words<'l>(verb: &str, subject: &'l str, class: &'l str) -> Option<Command<'l>>
     ensures { IsCommandOf (verb.now ∷ subject.now ∷ class.now ∷ []) result }
 {
-    let question = question_of_subject(verb, subject, class, false)?;
-    Some(Command::Ask(question))
-}
-
-/// The command of four words, of which the last asks for what is reached where the first does not ask to write.
-fn command_with_all<'l>(
-    verb: &str,
-    subject: &'l str,
-    class: &'l str,
-    last: &'l str,
-) -> Option<Command<'l>>
-    ensures { IsCommandOf (verb.now ∷ subject.now ∷ class.now ∷ last.now ∷ []) result }
-{
-    if verb == "write" {
-        Some(Command::Write(TextPaths {
-            taxonomy: subject,
-            instances: class,
-            certificate: last,
-        }))
-    } else if last == "reached" {
-        let question = question_of_subject(verb, subject, class, true)?;
-        Some(Command::Ask(question))
+    if let Some(command) = ask_of_two(verb, subject, class, NO_OPTIONS) {
+        return Some(command);
+    }
+    if class == "short" {
+        command_in_short(verb, subject)
     } else {
         None
     }
+}
+
+/// The command to write into the files at these paths, where the last is one word.
+fn command_to_write<'l>(taxonomy: &'l str, instances: &'l str, text: &'l str) -> Option<Command<'l>>
+    ensures { IsCommandOf (codes "write" ∷ taxonomy.now ∷ instances.now ∷ split_words text.now) result }
+{
+    match words_in(text) {
+        Words::One(certificate) => Some(Command::Write(TextPaths {
+            taxonomy,
+            instances,
+            certificate,
+        })),
+        _ => None,
+    }
+}
+
+/// The command of three words and of those of the text behind them.
+fn command_with_more<'l>(
+    verb: &str,
+    subject: &'l str,
+    class: &'l str,
+    text: &'l str,
+) -> Option<Command<'l>>
+    ensures { IsCommandOf (verb.now ∷ subject.now ∷ class.now ∷ split_words text.now) result }
+{
+    if verb == "write" {
+        return command_to_write(subject, class, text);
+    }
+    let options = options_in(text)?;
+    ask_of_two(verb, subject, class, options)
 }
 
 /// The command that the line is, without its line feed.
@@ -118,7 +178,6 @@ pub fn command_of(line: &str) -> Option<Command<'_>>
         Words::One(verb) => command_alone(verb),
         Words::Two(verb, word) => command_with_word(verb, word),
         Words::Three(verb, subject, class) => command_with_words(verb, subject, class),
-        Words::Four(verb, subject, class, last) => command_with_all(verb, subject, class, last),
-        Words::More => None,
+        Words::Behind(verb, subject, class, text) => command_with_more(verb, subject, class, text),
     }
 }

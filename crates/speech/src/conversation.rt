@@ -1,7 +1,7 @@
 //! A conversation: commands are read, and each is answered before the next one is read.
 ghost use Rattle.source_lines.specs.Sources.{source_state};
 ghost use Rattle.speech.specs.Conversations.{IsConversation, point};
-ghost use Rattle.session.specs.Devices.{FailsIn, Takes, seen};
+ghost use Rattle.telling.specs.Devices.{FailsIn, Takes, seen};
 ghost use Rattle.speech.specs.Turns.{Fits, IsNext, IsRefusalTold, IsReplied, status_of_end};
 ghost use Rattle.std.specs.Prelude.{◌≡◌, OnErr, OnOk};
 

@@ -1,12 +1,12 @@
 //! Replies.
-ghost use Rattle.session.specs.Devices.{FailsIn, Takes, seen};
+ghost use Rattle.telling.specs.Devices.{FailsIn, Takes, seen};
 ghost use Rattle.speech.specs.Replies.{done_text, refused_text, reply_text, told, too_large};
 ghost use Rattle.std.specs.Prelude.{OnErr, OnOk};
 
 use device::{Failed, Sink};
 use itoa::Buffer;
 use program::Status;
-use session::write_pieces;
+use telling::write_pieces;
 
 /// What is replied to a command: the status with which a command of the program ends there, and what it prints.
 #[derive(Debug, Drop)]

@@ -1,22 +1,25 @@
 //! A session that answers commands.
-ghost use Rattle.session.specs.Edits.{Add, Ask, Query, Resume};
+ghost use Rattle.answers.specs.Questions.{IsAnswerTo};
+ghost use Rattle.engine.specs.Saturations.{IsFinished};
+ghost use Rattle.session.specs.Edits.{Add, Query};
 ghost use Rattle.profile.specs.declared.fault.DocumentFault.TheVariants.{NotUtf8};
 ghost use Rattle.session.specs.declared.question_fault.QuestionFault.TheVariants as faults;
-ghost use Rattle.speech.specs.Answers.{IsCalled, IsCalledForEmpty, IsFaultTold, IsRunTo, IsStep, IsStopTold, IsTextCalled, Tells, axiom_at, axiom_told, done, run_end, run_text, status_text};
+ghost use Rattle.speech.specs.Answers.{IsAnsweredTold, IsAsked, IsAxiomTold, IsEndTold, IsFaultTold, IsRunTo, IsStep, IsStopTold, IsTextCalled, Tells, done, no_axiom_told, run_end, status_text};
 ghost use Rattle.speech.specs.Replies.{told_by};
-ghost use Rattle.std.specs.Prelude.{◌≡◌, ◌≤◌, None};
+ghost use Rattle.std.specs.Prelude.{◌≡◌, ◌≤◌, Ok};
 
-use crate::answering::{answered_reply, done_reply, fault_reply, found_reply, unfiled_reply};
+use crate::answering::{
+    ask_reply, consistency, done_reply, done_with, fault_reply, found_reply, unfiled_reply,
+};
 use crate::command::Command;
 use crate::reply::Reply;
 use crate::service::Service;
 use crate::sizes::end_of_run;
 use crate::version::version_reply;
-use axioms::OWL_NOTHING;
 use device::Memory;
 use profile::{DocumentFault, Limits};
-use program::{Question, Related, Status};
-use session::{QuestionFault, Session, Stop};
+use program::{Question, Spelling, Status};
+use session::{Answer, QuestionFault, Session, Stop, answer_text, is_graph};
 use std::alloc::Global;
 use std::str::from_utf8;
 
@@ -55,14 +58,6 @@ impl SessionService {
         fault_reply(self.alloc, &self.limits, &fault)
     }
 
-    /// Finds out what follows.
-    fn run(&mut self) -> Result<Reply, Memory>
-        ensures step { IsCalled self.old.limits (Resume self.old.limits.max_facts) self.old.session (told_by result) self.new.session }
-        ensures limits { self.new.limits ≡ self.old.limits }
-    {
-        self.run_to(self.limits.max_facts)
-    }
-
     /// Finds out what follows, as far as so many facts more than there are.
     fn run_some(&mut self, more: u32) -> Result<Reply, Memory>
         ensures step { IsRunTo self.old.limits (run_end self.old.limits self.old.session more) self.old.session (told_by result) self.new.session }
@@ -79,7 +74,7 @@ impl SessionService {
         ensures limits { self.new.limits ≡ self.old.limits }
     {
         match self.session.resume(end) {
-            Ok(()) => self.facts(),
+            Ok(()) => self.ended(),
             Err(Stop::Limit) => self.stopped(end),
             Err(Stop::Memory) => Err(Memory),
         }
@@ -104,12 +99,17 @@ impl SessionService {
         }
     }
 
-    /// The reply with the number of facts.
-    fn facts(&self) -> Result<Reply, Memory>
-        ensures { Tells (λ t. t ≡ done (run_text self.now.session)) result }
+    /// The reply where a run came to its end.
+    fn ended(&self) -> Result<Reply, Memory>
+        requires { IsFinished self.now.session.saturation }
+        ensures { Tells (IsEndTold self.now.session) result }
     {
         let facts = self.session.facts();
-        match format!(in self.alloc; "facts {facts}\n") {
+        let Some(consistent) = self.session.is_consistent() else {
+            unreachable!();
+        };
+        let word = consistency(consistent);
+        match format!(in self.alloc; "facts {facts}\n{word}\n") {
             Ok(text) => Ok(done_reply(text.into_bytes())),
             Err(_) => Err(Memory),
         }
@@ -129,11 +129,11 @@ impl SessionService {
     }
 
     /// The reply with the axiom of that number.
-    fn axiom(&self, number: u64) -> Result<Reply, Memory>
-        ensures { Tells (λ t. t ≡ axiom_told number (axiom_at self.now.session.ontology number)) result }
+    fn axiom(&self, number: u64, spelling: Spelling) -> Result<Reply, Memory>
+        ensures { Tells (IsAxiomTold self.now.session number spelling) result }
     {
         match self.session.axiom(number as usize) {
-            Ok(Some(line)) => Ok(done_reply(line)),
+            Ok(Some(line)) => done_with(self.session.spelled(line, spelling, false)),
             Ok(None) => self.no_axiom(number),
             Err(_) => Err(Memory),
         }
@@ -141,7 +141,7 @@ impl SessionService {
 
     /// The reply that there is no axiom of that number.
     fn no_axiom(&self, number: u64) -> Result<Reply, Memory>
-        ensures { Tells (λ t. t ≡ axiom_told number None) result }
+        ensures { Tells (λ t. t ≡ no_axiom_told number) result }
     {
         match format!(in self.alloc; "no axiom {number}\n") {
             Ok(text) => Ok(Reply {
@@ -152,20 +152,31 @@ impl SessionService {
         }
     }
 
-    /// The answer to the question.
-    fn ask(&self, question: Question<'_>) -> Result<Reply, Memory>
-        ensures { IsCalled self.now.limits (Ask question.entry) self.now.session (told_by result) self.now.session }
+    /// The reply with the answer to a question.
+    fn answered(
+        &self,
+        question: Question<'_>,
+        spelling: Spelling,
+        answer: Answer<'_>,
+    ) -> Result<Reply, Memory>
+        requires { IsAnswerTo self.now.session.ontology question answer }
+        ensures { Tells (IsAnsweredTold self.now.limits self.now.session question.entry spelling (Ok answer.entry)) result }
     {
-        let answer = self.session.ask(question);
         let ontology = self.session.ontology();
-        answered_reply(self.alloc, &self.limits, ontology, question, answer)
+        match answer_text(self.alloc, ontology, question, &answer) {
+            Ok(text) => done_with(self.session.spelled(text, spelling, is_graph(question))),
+            Err(_) => Err(Memory),
+        }
     }
 
-    /// The names of the classes that have no instance in any interpretation.
-    fn unsatisfiable(&self) -> Result<Reply, Memory>
-        ensures { IsCalledForEmpty self.now.limits self.now.session (told_by result) self.now.session }
+    /// Answers the question.
+    fn ask(&self, question: Question<'_>, spelling: Spelling) -> Result<Reply, Memory>
+        ensures { IsAsked self.now.limits question.entry spelling self.now.session (told_by result) self.now.session }
     {
-        self.ask(Question::Names(Related::Equivalents, OWL_NOTHING))
+        match self.session.ask(question) {
+            Ok(answer) => self.answered(question, spelling, answer),
+            Err(fault) => ask_reply(self.alloc, &self.limits, fault),
+        }
     }
 
     /// The names of the class expression that the bytes are.
@@ -190,14 +201,13 @@ impl SessionService {
     {
         match command {
             Command::Add(_) => self.add(payload),
-            Command::Run => self.run(),
+            Command::Run => self.run_to(self.limits.max_facts),
             Command::RunSome(more) => self.run_some(more),
-            Command::Ask(question) => self.ask(question),
+            Command::Ask(question, spelling) => self.ask(question, spelling),
             Command::Query(_) => self.query(payload),
             Command::Write(_) | Command::Infer(_) => unfiled_reply(self.alloc),
-            Command::Axiom(number) => self.axiom(number),
+            Command::Axiom(number, spelling) => self.axiom(number, spelling),
             Command::Status => self.status(),
-            Command::Unsatisfiable => self.unsatisfiable(),
             Command::Version => version_reply(self.alloc),
         }
     }

@@ -1,14 +1,12 @@
-//! The version of the program.
+//! What is told of versions.
 ghost use Rattle.speech.specs.Answers.{Tells, done, version_text};
 ghost use Rattle.std.specs.Prelude.{◌≡◌};
 
 use crate::answering::done_reply;
 use crate::reply::Reply;
 use device::Memory;
+use program::VERSION;
 use std::alloc::Global;
-
-/// The version of the program.
-pub const VERSION: &str = "0.9.0";
 
 /// The reply with the versions of the language and of the program.
 pub(crate) fn version_reply(alloc: Global) -> Result<Reply, Memory>

@@ -1,14 +1,14 @@
 //! The words of a line.
 ghost use Rattle.speech.specs.Commands.{AreWords, split_words};
 
-/// The words of a line, as far as commands have so many.
+/// The words of a line.
 #[derive(Clone, Copy)]
 pub(crate) enum Words<'l> {
     One(&'l str),
     Two(&'l str, &'l str),
     Three(&'l str, &'l str, &'l str),
-    Four(&'l str, &'l str, &'l str, &'l str),
-    More,
+    /// Three words, and behind the space that follows them the text of others.
+    Behind(&'l str, &'l str, &'l str, &'l str),
 }
 
 /// What stands between the spaces of the line.
@@ -21,11 +21,8 @@ pub(crate) fn words_in(line: &str) -> Words<'_>
     let Some((second, others)) = others.split_once(' ') else {
         return Words::Two(first, others);
     };
-    let Some((third, others)) = others.split_once(' ') else {
-        return Words::Three(first, second, others);
-    };
     match others.split_once(' ') {
-        Some(_) => Words::More,
-        None => Words::Four(first, second, third, others),
+        Some((third, rest)) => Words::Behind(first, second, third, rest),
+        None => Words::Three(first, second, others),
     }
 }

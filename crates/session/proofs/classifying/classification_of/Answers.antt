@@ -1,6 +1,6 @@
 use Rattle.std.proofs.Common.{◌≡◌, ◌≤◌, length, arith}
 use Rattle.session.proofs.AtEnd.{read}
-use Rattle.session.proofs.Told.{progress_behind}
+use Rattle.telling.proofs.Told.{progress_behind}
 use Rattle.session.proofs.classifying.classification_of.Goals as goal
 
 pub returns-in-Ok-made_of-clause-classified : goal.returns-in-Ok-made_of-clause-classified

@@ -1,7 +1,7 @@
 use Rattle.std.proofs.Common.{[]}
 use Rattle.session.proofs.Counting.{no_more}
 use Rattle.session.proofs.SessionOpened.{runs_as}
-use Rattle.session.proofs.Told.{progress_behind}
+use Rattle.telling.proofs.Told.{progress_behind}
 use Rattle.session.proofs.opening.run_telling.Goals as goal
 
 pub returns-in-Ok-resumed-clause-run : goal.returns-in-Ok-resumed-clause-run

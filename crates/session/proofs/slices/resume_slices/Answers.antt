@@ -1,5 +1,5 @@
 use Rattle.std.proofs.Common.{rules, ◌∙◌}
-use Rattle.session.proofs.Told.{progress_behind}
+use Rattle.telling.proofs.Told.{progress_behind}
 use Rattle.session.proofs.slices.resume_slices.Goals as goal
 
 pub returns-then-end-max_facts-clause-progress : goal.returns-then-end-max_facts-clause-progress

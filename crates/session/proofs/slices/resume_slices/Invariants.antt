@@ -1,6 +1,6 @@
 use Rattle.std.proofs.Common.{◌≡◌, ◌≤◌, ◌-◌}
-use Rattle.session.specs.Devices.{seen}
-use Rattle.session.specs.Progress.{IsProgress}
+use Rattle.telling.specs.Devices.{seen}
+use Rattle.telling.specs.Progress.{IsProgress}
 use Rattle.session.specs.Sessions.{KeepsText}
 use Rattle.session.proofs.slices.resume_slices.Given as goal
 

@@ -1,6 +1,6 @@
 use Rattle.std.proofs.Common.{◌≡◌, ◌∙◌, sym, refl, true, false, is_err}
 use Rattle.session.proofs.Outcomes.{takes, fails}
-use Rattle.session.specs.Devices.{Device}
+use Rattle.telling.specs.Devices.{Device}
 use Rattle.session.proofs.writing.write_texts.Goals as goal
 
 pub returns-then-is_err-clause-written : goal.returns-then-is_err-clause-written

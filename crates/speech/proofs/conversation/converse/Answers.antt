@@ -1,6 +1,6 @@
 use Rattle.std.proofs.Common.{[], Some, subst}
 use Rattle.source_lines.specs.Sources.{source_state}
-use Rattle.session.specs.Devices.{Takes, seen}
+use Rattle.telling.specs.Devices.{Takes, seen}
 use Rattle.speech.specs.Conversations.{point}
 use Rattle.speech.specs.Turns.{IsNext, IsRefusalTold}
 use Rattle.speech.specs.declared.input_fault.InputFault.{InputFault}

@@ -1,6 +1,6 @@
 use Rattle.std.proofs.Common.{◌+◌, [], length}
 use Rattle.source_lines.specs.Sources.{source_state}
-use Rattle.session.specs.Devices.{seen}
+use Rattle.telling.specs.Devices.{seen}
 use Rattle.speech.specs.Conversations.{point}
 use Rattle.speech.proofs.Conversing.{HasAnswered}
 use Rattle.speech.proofs.conversation.converse.Given as goal

@@ -1,6 +1,6 @@
 use Rattle.std.proofs.Common.{ℕ, List, refl, subst}
 use Rattle.source_lines.specs.Sources.{source_state}
-use Rattle.session.specs.Devices.{FailsIn, Takes, seen}
+use Rattle.telling.specs.Devices.{FailsIn, Takes, seen}
 use Rattle.speech.specs.Conversations.{point}
 use Rattle.speech.specs.Turns.{Hears, LacksBehind}
 use Rattle.speech.proofs.Behind.{refused_behind, turn_of}

@@ -1,6 +1,6 @@
 use Rattle.std.proofs.Common.{◌∙◌, List, ℕ, OnOk, OnErr, ap, subst}
 use Rattle.std.specs.Fmt.{decimal}
-use Rattle.session.specs.Devices.{FailsIn, Takes, seen}
+use Rattle.telling.specs.Devices.{FailsIn, Takes, seen}
 use Rattle.speech.proofs.Replying.{too_large_text}
 use Rattle.speech.proofs.reply.write_too_large.Goals as goal
 

@@ -9,9 +9,9 @@ use Rattle.speech.proofs.session_service.SessionService.run_to.Goals as goal
 
 pub returns-in-Ok-clause-step : goal.returns-in-Ok-clause-step
 returns-in-Ok-clause-step c =
-    run_to c.args.self.now.limits c.args.end c.args.self.now.session c.resume.new.self (Ok c.in-Ok.field-0) (told_by c.facts.result)
+    run_to c.args.self.now.limits c.args.end c.args.self.now.session c.resume.new.self (Ok c.in-Ok.field-0) (told_by c.ended.result)
     (c.in-Ok.ensures.ontology, c.in-Ok.ensures.others, c.in-Ok.ensures.resumed, c.in-Ok.ensures.saturates)
-    (told_or (IsRunTold c.args.self.now.limits c.args.end c.resume.new.self (Ok c.in-Ok.field-0)) c.facts.result c.facts.ensures)
+    (told_or (IsRunTold c.args.self.now.limits c.args.end c.resume.new.self (Ok c.in-Ok.field-0)) c.ended.result c.ended.ensures)
 
 pub returns-in-Err-Limit-clause-step : goal.returns-in-Err-Limit-clause-step
 returns-in-Err-Limit-clause-step c =
