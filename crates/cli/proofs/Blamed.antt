@@ -1,11 +1,12 @@
 -- Which files the answers of calls blame.
-use Rattle.std.proofs.Common.{◌≡◌, ◌∙◌, ◌+◌, ◌<◌, ℕ, zero, suc, List, Bool, Option, Result, Ok, Err, refl, sym, ap, subst, inl, inr, arith}
+use Rattle.std.proofs.Common.{◌≡◌, ◌∙◌, ◌+◌, ◌<◌, ℕ, zero, suc, List, Bool, Option, Result, Ok, Err, refl, sym, ap, subst}
 use Rattle.std.specs.Prelude.{IsErrOf}
 use Rattle.certificate.specs.declared.format.Format.{Format}
-use Rattle.session.specs.Devices.{Device, FailsIn}
+use Rattle.telling.specs.Devices.{Device}
 use Rattle.source_lines.specs.Sources.{SourceState}
-use Rattle.cli.proofs.ReadFiles.{IsOfFiles, read_blamed, read_there}
-use Rattle.cli.specs.Files.{AsksFile, ClassifiesFile, IsSourceOf, Store}
+use Rattle.receiving.proofs.ReadFiles.{IsOfFiles, read_blamed, read_there}
+use Rattle.cli.specs.Files.{AsksFile, ClassifiesFile}
+use Rattle.receiving.specs.Files.{IsSourceOf, Store}
 use Rattle.cli.specs.Classifications.{IsClassification, IsDocumentRead}
 use Rattle.session.specs.WrittenTexts.{AreWritten, AreWrittenUntil, Sinks, Texts}
 use Rattle.cli.specs.declared.fault.ClassifyFault.{ClassifyFault}
@@ -18,6 +19,7 @@ use Rattle.program.specs.declared.version.Version.{Version}
 use Rattle.session.specs.TextAnswers.{IsRead}
 use Rattle.session.specs.declared.question_fault.QuestionFault.{QuestionFault}
 use Rattle.session.specs.declared.question_fault.QuestionFault.TheVariants as asking
+use Rattle.receiving.proofs.Counted.{IsCounted, some_failed}
 
 -- ---- questions
 
@@ -31,11 +33,6 @@ asks_file fails known held (Err (asking.Expression fault)) limit old new is of r
 asks_file fails known held (Err asking.Memory) limit old new is of read beyond = read_there known held old new is read
 
 -- ---- writes that failed
-
--- how many writes had failed, before a sink was closed that failed so often and behind that
-pub record IsCounted (before behind failures : ℕ) : Type 0 where
-  pub unfailed : failures ≡ 0 → behind ≡ before
-  pub failed : 0 < failures → HasFailed before behind
 
 -- how many writes had failed, before three sinks were closed one after the other and behind that
 pub record AreCounted (sinks : Sinks) (before behind : ℕ) : Type 0 where
@@ -59,13 +56,6 @@ none sinks before behind counted working =
 
 pub untouched : (old new : Sinks) → AreWorking old → new ≡ old → AreWorking new
 untouched old new working same = let P : Sinks → Type 0 = AreWorking in subst P (sym same) working
-
-more : (old new : ℕ) → old ≡ 0 → HasFailed old new → 0 < new
-more old new none (inl rose) = omega (arith, none, rose)
-more old new none (inr last) = omega (arith, last)
-
-pub some_failed : (old new : Device) (text : List ℕ) → old.1 ≡ 0 → FailsIn old new text → 0 < new.1
-some_failed old new text working fails = more old.1 new.1 working fails.1
 
 pub written_none : (old new : Sinks) (texts : Texts) (before behind : ℕ) → AreWorking old → AreCounted new before behind → AreWritten old new texts → behind ≡ before
 written_none old new texts before behind working counted written =

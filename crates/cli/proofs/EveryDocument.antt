@@ -12,7 +12,7 @@ use Rattle.profile.specs.declared.fault.DocumentFault.{DocumentFault}
 use Rattle.profile.specs.declared.fault.DocumentFault.TheVariants as reading
 use Rattle.program.specs.declared.version.Version.{Version}
 use Rattle.engine.specs.Saturations.{HasMoreFactsThan}
-use Rattle.session.proofs.AnyVersion.{one_ontology}
+use Rattle.telling.proofs.OneOntology.{one_ontology}
 
 -- bytes within the limit that read as an ontology are not refused
 unrefused : (version : Version) (most facts : ℕ) (bytes : List ℕ) (o : Ontology) (fault : DocumentFault) → ReadsAs version bytes o → length bytes ≤ most → RefusesKnown version (Some bytes) most fault → StopsClassification o facts (Document fault)

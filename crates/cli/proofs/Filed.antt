@@ -7,7 +7,7 @@ use Rattle.cli.proofs.Blamed.{AreCounted, AreWorking, none, untouched, written_n
 use Rattle.cli.proofs.SomeTexts.{acceptable_are_some}
 use Rattle.cli.proofs.Stored.{AreNew, AreSinksClosed, nothing_stored, texts_held, texts_held_until}
 use Rattle.cli.specs.Filing.{BlamesTexts, Filed, IsBegunIn, IsFiledBy, IsFiledIn, IsRunOn, IsTextsAnswer, filed, filing_service, is_run}
-use Rattle.cli.specs.Messages.{IsPrinted}
+use Rattle.telling.specs.Printing.{IsPrinted}
 use Rattle.cli.specs.declared.filing.FileService.{FileService}
 use Rattle.command_line.specs.declared.tasks.Paths.{Paths}
 use Rattle.device.specs.declared.device.Sink as sinks
@@ -17,11 +17,11 @@ use Rattle.program.specs.declared.status.Status.{Status}
 use Rattle.program.specs.declared.status.Status.TheVariants as statuses
 use Rattle.program.specs.declared.version.Version.{Version}
 use Rattle.session.proofs.Calls.{edits_are_one_document}
-use Rattle.session.proofs.Told.{progress_behind}
+use Rattle.telling.proofs.Told.{progress_behind}
 use Rattle.session.specs.Answers.{IsWritten}
-use Rattle.session.specs.Devices.{Device, Takes, seen}
-use Rattle.session.specs.Edits.{Reply, Added, Resumed, Answered, Found, Written, Inferred, Resume, IsCall, IsOneDocument, IsSessionOver}
-use Rattle.session.specs.Progress.{IsProgress}
+use Rattle.telling.specs.Devices.{Device, Takes, seen}
+use Rattle.session.specs.Edits.{Reply, Added, Resumed, Answered, Found, Decided, Written, Inferred, Resume, IsCall, IsOneDocument, IsSessionOver}
+use Rattle.telling.specs.Progress.{IsProgress}
 use Rattle.session.specs.Sessions.{IsSession, KeepsText, Opened}
 use Rattle.session.specs.WrittenTexts.{Sinks}
 use Rattle.session.specs.declared.fault.WritingFault.{WritingFault}
@@ -153,6 +153,7 @@ kept_by mid new most (Added answer) call = absurd call
 kept_by mid new most (Resumed answer) call = call.1
 kept_by mid new most (Answered answer) call = absurd call
 kept_by mid new most (Found answer) call = absurd call
+kept_by mid new most (Decided answer) call = absurd call
 kept_by mid new most (Written after answer) call = absurd call
 kept_by mid new most (Inferred answer) call = absurd call
 
@@ -168,13 +169,12 @@ adds_none : (command : Command) (writing : Writing) (status : Status) (payload :
 adds_none (asked.Add size) texts status payload is = absurd (cc)
 adds_none asked.Run texts status payload is = refl
 adds_none (asked.RunSome more) texts status payload is = refl
-adds_none (asked.Ask question) texts status payload is = refl
+adds_none (asked.Ask question spelling) texts status payload is = refl
 adds_none (asked.Query size) texts status payload is = refl
 adds_none (asked.Write paths) texts status payload is = refl
 adds_none (asked.Infer path) texts status payload is = refl
-adds_none (asked.Axiom number) texts status payload is = refl
+adds_none (asked.Axiom number spelling) texts status payload is = refl
 adds_none asked.Status texts status payload is = refl
-adds_none asked.Unsatisfiable texts status payload is = refl
 adds_none asked.Version texts status payload is = refl
 
 -- the calls by which a session is run on come before others

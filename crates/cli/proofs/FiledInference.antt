@@ -1,14 +1,14 @@
 -- What a session infers that is written into a file.
 use Rattle.std.proofs.Common.{◌≡◌, ◌∙◌, ℕ, List, Bool, Ok, Err, refl}
 use Rattle.classification.specs.declared.classification.Summary.{Summary}
-use Rattle.cli.proofs.Blamed.{IsCounted, some_failed}
-use Rattle.cli.proofs.SomeTexts.{some}
-use Rattle.cli.proofs.Stored.{IsLeftBy, sink_begins, sink_holds, stays}
+use Rattle.receiving.proofs.Counted.{IsCounted, some_failed}
+use Rattle.receiving.proofs.Spelled.{some}
+use Rattle.receiving.proofs.Stored.{IsLeftBy, sink_begins, sink_holds, stays}
 use Rattle.cli.specs.Filing.{IsInferenceFiled}
-use Rattle.cli.specs.HeldTexts.{AreOtherFilesKept}
+use Rattle.receiving.specs.HeldTexts.{AreOtherFilesKept}
 use Rattle.engine.specs.Saturations.{IsFinished}
 use Rattle.session.specs.Answers.{IsUnmade}
-use Rattle.session.specs.Devices.{Device, FailsIn, Takes}
+use Rattle.telling.specs.Devices.{Device, FailsIn, Takes}
 use Rattle.session.specs.Inferences.{IsInferred}
 use Rattle.session.specs.Sessions.{Opened}
 use Rattle.session.specs.declared.fault.WritingFault.{WritingFault}

@@ -5,62 +5,52 @@ use Rattle.std.specs.Borrow.{Bor}
 use Rattle.lemmas.proofs.Choices.{one_value}
 use Rattle.cert_check.specs.declared.verdict.Verdict.{Verdict}
 use Rattle.cert_check.specs.declared.verdict.Verdict.TheVariants.{Accepted}
-use Rattle.axioms.specs.Ontology.{Ontology}
 use Rattle.certificate.specs.declared.format.Format.{Format}
 use Rattle.clap.specs.Words.{Row, Text, takes}
 use Rattle.command_line.proofs.Numbers.{one_number}
-use Rattle.command_line.specs.CommandLine.{AreLimits, ArePaths, IsCommand, IsFormat, IsLimitOfFacts, IsQuestion, IsTaskOf, IsFlag, IsTelling, IsVersion, Refuses, draws_facts, elc_app, format_number, tells_progress, version_number}
+use Rattle.command_line.specs.CommandLine.{AreLimits, IsCommand, IsLimitOfFacts, IsQuestion, IsTaskOf, IsTelling, Refuses, draws_facts, elc_app, tells_progress}
 use Rattle.command_line.specs.declared.tasks.Command.{Command}
 use Rattle.command_line.specs.declared.tasks.Command.TheVariants.{Ask, Check, Classify, Convert, Infer, Query, Restrict, Session}
 use Rattle.command_line.specs.declared.tasks.FormatNumber.{FormatNumber}
-use Rattle.command_line.specs.declared.tasks.FormatNumber.TheVariants as numbers
 use Rattle.command_line.specs.declared.tasks.LineFault.{LineFault}
 use Rattle.command_line.specs.declared.tasks.LineFault.TheVariants as line
 use Rattle.command_line.specs.declared.tasks.Paths.{Paths}
 use Rattle.command_line.specs.declared.tasks.Task.{Task}
-use Rattle.cli.specs.declared.checking.Checked.{Checked}
-use Rattle.cli.specs.declared.fault.CheckFault.{CheckFault}
+use Rattle.receiving.specs.declared.checking.Checked.{Checked}
+use Rattle.receiving.specs.declared.fault.CheckFault.{CheckFault}
 use Rattle.cli.proofs.WrittenAccepted.{written_is_accepted}
-use Rattle.cli.specs.Checks.{IsChecked, IsCheckFault}
-use Rattle.session.specs.Devices.{Device}
+use Rattle.receiving.specs.Checks.{IsCheckFault}
+use Rattle.telling.specs.Devices.{Device}
 use Rattle.cli.specs.HeldTexts.{AreApart, HoldTexts}
-use Rattle.cli.specs.Runs.{IsCheckRun, IsCheckTold, IsCheckedFiles, IsClassifyAnswer, IsClassifyRun, IsClassifyTold, IsCommandRun, format_of}
-use Rattle.cli.specs.Files.{Store}
-use Rattle.session.specs.Progress.{IsProgress}
-use Rattle.cli.specs.Messages.{Output, IsAnswered, IsLineTold, IsPrinted, IsTold, classify_status, out_of_memory, verdict_status, verdict_text}
-use Rattle.cli.specs.Theorems.{AreSamePaths, IsAcceptedRun, IsDocumentApart, WrittenFilesAreAccepted}
+use Rattle.receiving.specs.Runs.{IsCheckRun, IsCheckTold, IsCheckedFiles, format_of}
+use Rattle.cli.specs.Runs.{IsClassifyAnswer, IsClassifyRun, IsClassifyTold, IsCommandRun}
+use Rattle.receiving.specs.Files.{Store}
+use Rattle.telling.specs.Progress.{IsProgress}
+use Rattle.telling.specs.Printing.{Output, IsAnswered}
+use Rattle.receiving.specs.Messages.{IsLineTold, verdict_status, verdict_text}
+use Rattle.cli.specs.Messages.{classify_status}
+use Rattle.receiving.specs.Theorems.{AreSamePaths}
+use Rattle.cli.specs.Theorems.{IsAcceptedRun, IsDocumentApart, WrittenFilesAreAccepted}
 use Rattle.cli.specs.WordsOfRuns.{AreSameLimits, WordsOfCheckCheck, WordsOfClassifyClassify}
 use Rattle.session.specs.Classifications.{IsClassified}
 use Rattle.session.specs.WrittenTexts.{Texts}
 use Rattle.cli.specs.declared.fault.ClassifyFault.{ClassifyFault}
 use Rattle.cli.specs.declared.fault.ClassifyFault.TheVariants as classifying
 use Rattle.classification.specs.declared.classification.Summary.{Summary}
-use Rattle.profile.specs.Messages.{status_of}
 use Rattle.program.specs.declared.limits.Limits.{Limits}
 use Rattle.program.specs.declared.question.Question.{Question}
-use Rattle.program.specs.declared.question.Question.TheVariants.{Groups, Names, Why}
+use Rattle.program.specs.declared.question.Question.TheVariants.{DirectTypes, Groups, Lacks, Names, Types, Unsatisfiable, Why}
 use Rattle.program.specs.declared.question.Related.TheVariants.{Equivalents, Instances, Subclasses, Superclasses}
 use Rattle.program.specs.declared.question.Side.TheVariants.{Above, Below}
 use Rattle.program.specs.Status.{code_of}
-use Rattle.program.specs.declared.status.Status.{Status}
 use Rattle.program.specs.declared.status.Status.TheVariants as statuses
 use Rattle.program.specs.declared.version.Version.{Version}
-use Rattle.program.specs.declared.version.Version.TheVariants.{One, Two}
-use Rattle.profile.specs.declared.fault.DocumentFault.{DocumentFault}
-use Rattle.profile.specs.declared.fault.DocumentFault.TheVariants as reading
 use Rattle.system_files.specs.Contents.{Content}
+use Rattle.receiving.proofs.NotDone.{document_not_done, told_not_done}
+use Rattle.receiving.proofs.OneTask.{same_paths, one_version, one_flag, one_format}
+use Rattle.receiving.proofs.FilesRight.{checked_texts}
 
 -- ---- a fault has another status than 0
-
-pub document_not_done : (fault : DocumentFault) → code_of statuses.Done ≡ code_of (status_of fault) → ⊥
-document_not_done (reading.NotUtf8 at) e = cc
-document_not_done reading.TooLarge e = cc
-document_not_done reading.Io e = cc
-document_not_done (reading.Lex fault) e = cc
-document_not_done (reading.Parse fault) e = cc
-document_not_done (reading.Faults found) e = cc
-document_not_done reading.TooManyNames e = cc
-document_not_done reading.Memory e = cc
 
 fault_not_done : (fault : ClassifyFault) → code_of statuses.Done ≡ code_of (classify_status fault) → ⊥
 fault_not_done (classifying.Document fault) e = document_not_done fault e
@@ -68,29 +58,12 @@ fault_not_done classifying.Memory e = cc
 fault_not_done classifying.Limit e = cc
 fault_not_done (classifying.Io n) e = cc
 
-pub printed_not_done : (old new : Device) (text : List ℕ) (status : Status) → (code_of statuses.Done ≡ code_of status → ⊥) → IsPrinted old new text status (code_of statuses.Done) → ⊥
-printed_not_done old new text status other (inl whole) = other whole.1
-printed_not_done old new text status other (inr failed) = let e = failed.1 in cc
-
-pub told_not_done : (old new : Device) (IsText : List ℕ → Type 0) (status : Status) → (code_of statuses.Done ≡ code_of status → ⊥) → IsTold old new IsText status (code_of statuses.Done) → ⊥
-told_not_done old new IsText status other (inl told) = printed_not_done old new told.0 status other told.2
-told_not_done old new IsText status other (inr told) = printed_not_done old new out_of_memory statuses.Memory (λ e. cc) told
-
 -- ---- the check of what was written
-
--- a check of four texts in files is one of the texts that they hold
-pub checked_texts : (version : Version) (most : ℕ) (content : Content) (paths : Paths) (bytes : List ℕ) (texts : Texts) (o : Ontology) (verdict : Verdict) → content paths.document.now ≡ Some bytes → content paths.taxonomy.now ≡ Some texts.taxonomy → content paths.instances.now ≡ Some texts.instances → content paths.certificate.now ≡ Some texts.certificate → IsChecked version most (content paths.document.now) (content paths.taxonomy.now) (content paths.instances.now) (content paths.certificate.now) o verdict → IsChecked version most (Some bytes) (Some texts.taxonomy) (Some texts.instances) (Some texts.certificate) o verdict
-checked_texts version most content paths bytes texts o verdict document taxonomy instances certificate checked =
-    let of_document : Option (List ℕ) → Type 0 = λ d. IsChecked version most d (content paths.taxonomy.now) (content paths.instances.now) (content paths.certificate.now) o verdict in
-    let of_taxonomy : Option (List ℕ) → Type 0 = λ t. IsChecked version most (Some bytes) t (content paths.instances.now) (content paths.certificate.now) o verdict in
-    let of_instances : Option (List ℕ) → Type 0 = λ i. IsChecked version most (Some bytes) (Some texts.taxonomy) i (content paths.certificate.now) o verdict in
-    let of_certificate : Option (List ℕ) → Type 0 = λ c. IsChecked version most (Some bytes) (Some texts.taxonomy) (Some texts.instances) c o verdict in
-    subst of_certificate certificate (subst of_instances instances (subst of_taxonomy taxonomy (subst of_document document checked)))
 
 -- texts that were written are accepted in files that hold them, unless the check is stopped
 check_accepted : (paths : Paths) (written version : Version) (format : Format) (facts bytes most : ℕ) (content : Content) (old new : Output) (status : ℕ) (document : List ℕ) (texts : Texts) (summary : Summary) (answer : Result Checked CheckFault) → IsClassified written format bytes facts (Some document) summary texts → content paths.document.now ≡ Some document → content paths.taxonomy.now ≡ Some texts.taxonomy → content paths.instances.now ≡ Some texts.instances → content paths.certificate.now ≡ Some texts.certificate → IsCheckedFiles paths version most content answer → IsCheckTold paths most answer old new status → IsAcceptedRun version most document old new status
 check_accepted paths written version format facts bytes most content old new status document texts summary (Ok answer) classified holds taxonomy instances certificate is told =
-    let checked = checked_texts version most content paths document texts answer.ontology answer.verdict holds taxonomy instances certificate is in
+    let checked = checked_texts version most content paths document texts.taxonomy texts.instances texts.certificate answer.ontology answer.verdict holds taxonomy instances certificate is in
     let accepted : answer.verdict ≡ Accepted = written_is_accepted written version format bytes most facts document texts summary (Ok answer) classified checked in
     let P : Verdict → Type 0 = λ v. IsAnswered old new (verdict_text answer.ontology v) (verdict_status v) status in
     inl (subst P accepted told)
@@ -122,25 +95,6 @@ runs_are_accepted paths paths' format limits version most s s' content content' 
 
 -- ---- the words ask for one task
 
--- paths that the same rows name are the same
-same_paths : (rows : List Row) (p q : Paths) → ArePaths rows p → ArePaths rows q → AreSamePaths p q
-same_paths rows p q a b = record {
-  document = one_value _ _ _ a.document b.document;
-  taxonomy = one_value _ _ _ a.taxonomy b.taxonomy;
-  instances = one_value _ _ _ a.instances b.instances;
-  certificate = one_value _ _ _ a.certificate b.certificate;
-}
-
-same_format : (v w : FormatNumber) → format_number v ≡ format_number w → v ≡ w
-same_format numbers.One numbers.One e = refl
-same_format numbers.Two numbers.Two e = refl
-same_format numbers.One numbers.Two e = let bad : 1 ≡ 2 = e in absurd (cc)
-same_format numbers.Two numbers.One e = let bad : 2 ≡ 1 = e in absurd (cc)
-
--- an option has one format
-one_format : (rows : List Row) (v w : FormatNumber) → IsFormat rows v → IsFormat rows w → v ≡ w
-one_format rows v w h k = same_format v w (one_number _ _ _ _ h k)
-
 -- whether the name is one of these four
 abbrev is_one_of_four : Text → Bool
 is_one_of_four name = bytes_eq name (codes "classify") || bytes_eq name (codes "check") || bytes_eq name (codes "restrict") || bytes_eq name (codes "infer")
@@ -160,6 +114,10 @@ asks name rows (Names Instances class) is = ap is_one_of_four is.0
 asks name rows (Groups Above class) is = ap is_one_of_four is.0
 asks name rows (Groups Below class) is = ap is_one_of_four is.0
 asks name rows (Why asked class shown) is = ap is_one_of_four is.0
+asks name rows Unsatisfiable is = ap is_one_of_four is
+asks name rows (Types individual) is = ap is_one_of_four is.0
+asks name rows (DirectTypes individual) is = ap is_one_of_four is.0
+asks name rows (Lacks asked class) is = ap is_one_of_four is.0
 
 -- a command of the name `classify` is a classification
 is_classify : (name : Text) (rows : List Row) (command : Command) → name ≡ codes "classify" → IsCommand name rows command → (paths : Paths) × (number : FormatNumber) × (command ≡ Classify paths number)
@@ -168,8 +126,8 @@ is_classify name rows (Check paths) is is' = let bad : codes "classify" ≡ code
 is_classify name rows (Convert conversion) is is' = let bad : true ≡ false = sym (ap is_one_of_four is) ∙ ap is_one_of_four is'.0 in absurd (cc)
 is_classify name rows (Restrict document output) is is' = let bad : false ≡ true = sym (ap is_restriction is) ∙ ap is_restriction is'.0 in absurd (cc)
 is_classify name rows (Infer document output) is is' = let bad : false ≡ true = sym (ap is_inference is) ∙ ap is_inference is'.0 in absurd (cc)
-is_classify name rows (Ask document question) is is' = let bad : true ≡ false = sym (ap is_one_of_four is) ∙ asks name rows question is'.1 in absurd (cc)
-is_classify name rows (Query document expression) is is' = let bad : true ≡ false = sym (ap is_one_of_four is) ∙ ap is_one_of_four is'.0 in absurd (cc)
+is_classify name rows (Ask document question spelling) is is' = let bad : true ≡ false = sym (ap is_one_of_four is) ∙ asks name rows question is'.1 in absurd (cc)
+is_classify name rows (Query document expression spelling) is is' = let bad : true ≡ false = sym (ap is_one_of_four is) ∙ ap is_one_of_four is'.0 in absurd (cc)
 is_classify name rows (Session document) is is' = let bad : true ≡ false = sym (ap is_one_of_four is) ∙ ap is_one_of_four is'.0 in absurd (cc)
 
 -- what a run of a command says that the words of `classify` ask for
@@ -188,8 +146,8 @@ is_check name rows (Classify paths number) is is' = let bad : codes "check" ≡ 
 is_check name rows (Convert conversion) is is' = let bad : true ≡ false = sym (ap is_one_of_four is) ∙ ap is_one_of_four is'.0 in absurd (cc)
 is_check name rows (Restrict document output) is is' = let bad : codes "check" ≡ codes "restrict" = sym is ∙ is'.0 in absurd (cc)
 is_check name rows (Infer document output) is is' = let bad : false ≡ true = sym (ap is_inference is) ∙ ap is_inference is'.0 in absurd (cc)
-is_check name rows (Ask document question) is is' = let bad : true ≡ false = sym (ap is_one_of_four is) ∙ asks name rows question is'.1 in absurd (cc)
-is_check name rows (Query document expression) is is' = let bad : true ≡ false = sym (ap is_one_of_four is) ∙ ap is_one_of_four is'.0 in absurd (cc)
+is_check name rows (Ask document question spelling) is is' = let bad : true ≡ false = sym (ap is_one_of_four is) ∙ asks name rows question is'.1 in absurd (cc)
+is_check name rows (Query document expression spelling) is is' = let bad : true ≡ false = sym (ap is_one_of_four is) ∙ ap is_one_of_four is'.0 in absurd (cc)
 is_check name rows (Session document) is is' = let bad : true ≡ false = sym (ap is_one_of_four is) ∙ ap is_one_of_four is'.0 in absurd (cc)
 
 -- what a run of a command says that the words of `check` ask for
@@ -208,8 +166,8 @@ is_restrict name rows (Classify paths number) is is' = let bad : true ≡ false 
 is_restrict name rows (Check paths) is is' = let bad : codes "restrict" ≡ codes "check" = sym is ∙ is'.0 in absurd (cc)
 is_restrict name rows (Convert conversion) is is' = let bad : true ≡ false = sym (ap is_one_of_four is) ∙ ap is_one_of_four is'.0 in absurd (cc)
 is_restrict name rows (Infer document output) is is' = let bad : true ≡ false = sym (ap is_restriction is) ∙ ap is_restriction is'.0 in absurd (cc)
-is_restrict name rows (Ask document question) is is' = let bad : true ≡ false = sym (ap is_one_of_four is) ∙ asks name rows question is'.1 in absurd (cc)
-is_restrict name rows (Query document expression) is is' = let bad : true ≡ false = sym (ap is_one_of_four is) ∙ ap is_one_of_four is'.0 in absurd (cc)
+is_restrict name rows (Ask document question spelling) is is' = let bad : true ≡ false = sym (ap is_one_of_four is) ∙ asks name rows question is'.1 in absurd (cc)
+is_restrict name rows (Query document expression spelling) is is' = let bad : true ≡ false = sym (ap is_one_of_four is) ∙ ap is_one_of_four is'.0 in absurd (cc)
 is_restrict name rows (Session document) is is' = let bad : true ≡ false = sym (ap is_one_of_four is) ∙ ap is_one_of_four is'.0 in absurd (cc)
 
 -- a command of the name `infer` is an inference
@@ -219,26 +177,9 @@ is_infer name rows (Classify paths number) is is' = let bad : true ≡ false = s
 is_infer name rows (Check paths) is is' = let bad : true ≡ false = sym (ap is_inference is) ∙ ap is_inference is'.0 in absurd (cc)
 is_infer name rows (Convert conversion) is is' = let bad : true ≡ false = sym (ap is_inference is) ∙ ap is_inference is'.0 in absurd (cc)
 is_infer name rows (Restrict document output) is is' = let bad : true ≡ false = sym (ap is_inference is) ∙ ap is_inference is'.0 in absurd (cc)
-is_infer name rows (Ask document question) is is' = let bad : true ≡ false = sym (ap is_one_of_four is) ∙ asks name rows question is'.1 in absurd (cc)
-is_infer name rows (Query document expression) is is' = let bad : true ≡ false = sym (ap is_inference is) ∙ ap is_inference is'.0 in absurd (cc)
+is_infer name rows (Ask document question spelling) is is' = let bad : true ≡ false = sym (ap is_one_of_four is) ∙ asks name rows question is'.1 in absurd (cc)
+is_infer name rows (Query document expression spelling) is is' = let bad : true ≡ false = sym (ap is_inference is) ∙ ap is_inference is'.0 in absurd (cc)
 is_infer name rows (Session document) is is' = let bad : true ≡ false = sym (ap is_inference is) ∙ ap is_inference is'.0 in absurd (cc)
-
-same_version : (v w : Version) → version_number v ≡ version_number w → v ≡ w
-same_version One One e = refl
-same_version Two Two e = refl
-same_version One Two e = let bad : 1 ≡ 2 = e in absurd (cc)
-same_version Two One e = let bad : 2 ≡ 1 = e in absurd (cc)
-
--- an option has one version
-pub one_version : (rows : List Row) (v w : Version) → IsVersion rows v → IsVersion rows w → v ≡ w
-one_version rows v w h k = same_version v w (one_number _ _ _ _ h k)
-
--- a flag stands or does not
-one_flag : (id : Text) (rows : List Row) (a b : Bool) → IsFlag id rows a → IsFlag id rows b → a ≡ b
-one_flag id rows true true h k = refl
-one_flag id rows false false h k = refl
-one_flag id rows true false h k = let bad : codes "true" ≡ codes "false" = one_value _ _ _ h k in cc
-one_flag id rows false true h k = let bad : codes "false" ≡ codes "true" = one_value _ _ _ h k in cc
 
 -- the words name one command and its matches, of whatever task is asked about them
 pub record IsNamed (name : Text) (rows : List Row) (command : Command) (task : Task) : Type 0 where
@@ -266,7 +207,7 @@ checked words task other paths s content content' old new status of is of' run =
 
 -- words that clap takes are refused only for want of memory, which is told
 pub refused_told : (words : List Text) (task : Task) (fault : LineFault) (old new : Device) (status : ℕ) → IsTaskOf words task → takes elc_app words ≡ true → Refuses words fault → IsLineTold fault old new status → IsLineTold line.Memory old new status
-refused_told words task (line.Line error) old new status of taken refuses told = absurd (refuses taken task of)
+refused_told words task (line.Line error) old new status of taken refuses told = absurd (refuses.0 taken task of)
 refused_told words task line.Memory old new status of taken refuses told = told
 
 pub words_check : WordsOfCheckCheck
@@ -275,7 +216,8 @@ words_check words task paths s content content' old new status of is taken (inl 
     let k = checked words task run.0 paths s content content' behind.begun new status of is run.1 behind.holds in
     let Q : Bool → Type 0 = λ told. IsProgress told old.err behind.begun.err in
     inl (record { begun = behind.begun; unprinted = behind.unprinted; progress = subst Q k.3 behind.progress; holds = (k.0, k.1, k.2) })
-words_check words task paths s content content' old new status of is taken (inr run) = inr (run.2, refused_told words task run.0 old.err new.err status of taken run.1 run.3)
+words_check words task paths s content content' old new status of is taken (inr (inl told)) = absurd (told.0.0 taken)
+words_check words task paths s content content' old new status of is taken (inr (inr run)) = inr (run.2, refused_told words task run.0 old.err new.err status of taken run.1 run.3)
 
 pub words_classify : WordsOfClassifyClassify
 words_classify words task paths number s content content' old new status of is taken (inl run) =
@@ -299,4 +241,5 @@ words_classify words task paths number s content content' old new status of is t
     } in
     let T : Format → Type 0 = λ format. IsClassifyRun made.0 format other.limits s content content' behind.begun new status in
     inl (record { begun = behind.begun; unprinted = behind.unprinted; progress = subst Q same behind.progress; holds = (made.0, other.limits, made.2, same_limits, subst T made.4 made.3) })
-words_classify words task paths number s content content' old new status of is taken (inr run) = inr (run.2, refused_told words task run.0 old.err new.err status of taken run.1 run.3)
+words_classify words task paths number s content content' old new status of is taken (inr (inl told)) = absurd (told.0.0 taken)
+words_classify words task paths number s content content' old new status of is taken (inr (inr run)) = inr (run.2, refused_told words task run.0 old.err new.err status of taken run.1 run.3)

@@ -3,22 +3,23 @@ use Rattle.std.proofs.Common.{◌≡◌, ◌∙◌, ◌+◌, ◌<◌, ℕ, List,
 use Rattle.std.specs.Prelude.{IsErrOf}
 use Rattle.std.specs.Io.KnownBytes.{Keeps}
 use Rattle.classification.specs.declared.classification.Summary.{Summary}
-use Rattle.cli.proofs.Blamed.{IsCounted, some_failed}
-use Rattle.cli.proofs.Kept.{reads_file, refuses_file}
+use Rattle.receiving.proofs.Counted.{IsCounted, some_failed}
+use Rattle.receiving.proofs.Kept.{reads_file, refuses_file}
 use Rattle.cli.proofs.Questions.{read_as_file}
-use Rattle.cli.proofs.ReadFiles.{IsOfFiles, read_blamed, read_there}
-use Rattle.cli.proofs.SomeTexts.{some}
-use Rattle.cli.proofs.Stored.{IsLeftBy, IsSome, sink_begins, sink_holds, sink_stays}
-use Rattle.cli.specs.Files.{InfersFile, IsSourceOf, Store}
+use Rattle.receiving.proofs.ReadFiles.{IsOfFiles, read_blamed, read_there}
+use Rattle.receiving.proofs.Spelled.{some}
+use Rattle.receiving.proofs.Stored.{IsLeftBy, IsSome, sink_begins, sink_holds, sink_stays}
+use Rattle.cli.specs.Files.{InfersFile}
+use Rattle.receiving.specs.Files.{IsSourceOf, Store}
 use Rattle.cli.specs.Inferring.{IsInferenceAnswer, IsInferenceRead, IsInferredBy}
-use Rattle.cli.specs.HeldTexts.{AreOtherFilesKept}
+use Rattle.receiving.specs.HeldTexts.{AreOtherFilesKept}
 use Rattle.cli.specs.Runs.{IsInferAnswer, IsInferMade}
 use Rattle.cli.specs.declared.fault.InferenceFault.{InferenceFault}
 use Rattle.cli.specs.declared.fault.InferenceFault.TheVariants.{Run, Unwritten}
 use Rattle.profile.specs.declared.fault.DocumentFault.{DocumentFault}
 use Rattle.profile.specs.declared.fault.DocumentFault.TheVariants as reading
 use Rattle.program.specs.declared.limits.Limits.{Limits}
-use Rattle.session.specs.Devices.{Device, FailsIn, Takes}
+use Rattle.telling.specs.Devices.{Device, FailsIn, Takes}
 use Rattle.session.specs.Run.{IsRunFault}
 use Rattle.session.specs.declared.run_fault.RunFault.{RunFault}
 use Rattle.session.specs.declared.run_fault.RunFault.TheVariants.{Document, Limit, Memory}

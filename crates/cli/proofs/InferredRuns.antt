@@ -5,11 +5,14 @@ use Rattle.lemmas.proofs.Choices.{one_value}
 use Rattle.axioms.specs.Ontology.{Ontology}
 use Rattle.clap.specs.Words.{Row, Text}
 use Rattle.classification.specs.declared.classification.Summary.{Summary}
-use Rattle.cli.proofs.FilesAccepted.{document_not_done, is_infer, named, one_version, refused_told, told_not_done}
+use Rattle.receiving.proofs.NotDone.{document_not_done, told_not_done}
+use Rattle.cli.proofs.FilesAccepted.{is_infer, named, refused_told}
+use Rattle.receiving.proofs.OneTask.{one_version}
 use Rattle.cli.proofs.RestrictedRuns.{printed_done}
-use Rattle.cli.specs.Files.{Store}
-use Rattle.cli.specs.HeldTexts.{Holds}
-use Rattle.cli.specs.Messages.{Output, summary_text}
+use Rattle.receiving.specs.Files.{Store}
+use Rattle.receiving.specs.HeldTexts.{Holds}
+use Rattle.telling.specs.Printing.{Output}
+use Rattle.cli.specs.Messages.{summary_text}
 use Rattle.cli.specs.Runs.{IsCommandRun, IsInferMade, IsInferRun, IsInferTold}
 use Rattle.cli.specs.Theorems.{InferredAxiomsSayTheSame, IsInferredInto}
 use Rattle.cli.specs.WordsOfRuns.{AreSameLimits, WordsOfInferInfer}
@@ -25,7 +28,7 @@ use Rattle.program.specs.Status.{code_of}
 use Rattle.program.specs.declared.limits.Limits.{Limits}
 use Rattle.program.specs.declared.status.Status.TheVariants as statuses
 use Rattle.program.specs.declared.version.Version.{Version}
-use Rattle.session.specs.Progress.{IsProgress}
+use Rattle.telling.specs.Progress.{IsProgress}
 use Rattle.session.specs.Run.{question_fault}
 use Rattle.session.specs.declared.run_fault.RunFault.{RunFault}
 use Rattle.session.specs.declared.run_fault.RunFault.TheVariants.{Document, Limit, Memory}
@@ -105,4 +108,5 @@ words_infer words task document output s content content' old new status of is t
       version = one_version _ _ _ of'.is.limits.version here.limits.version;
     } in
     inl (record { begun = behind.begun; unprinted = behind.unprinted; progress = subst Q same behind.progress; holds = (other.limits, same_limits, made) })
-words_infer words task document output s content content' old new status of is taken (inr run) = inr (run.2, refused_told words task run.0 old.err new.err status of taken run.1 run.3)
+words_infer words task document output s content content' old new status of is taken (inr (inl told)) = absurd (told.0.0 taken)
+words_infer words task document output s content content' old new status of is taken (inr (inr run)) = inr (run.2, refused_told words task run.0 old.err new.err status of taken run.1 run.3)

@@ -1,39 +1,20 @@
 -- Known bytes that stay, and known bytes that are all read.
-use Rattle.std.proofs.Common.{ℕ, ◌++◌, ◌≤◌, List, length, Option, Some, None, sym, ap, subst, ◌∙◌}
-use Rattle.std.proofs.lemmas.List.{append-nil}
-use Rattle.std.specs.Io.KnownBytes.{Consumes, IsAtEnd, Keeps}
-use Rattle.axioms.specs.Ontology.{Ontology}
+use Rattle.std.proofs.Common.{ℕ, ◌≤◌, List, length, Option, Some, None, subst}
+use Rattle.std.specs.Io.KnownBytes.{Keeps}
 use Rattle.certificate.specs.declared.format.Format.{Format}
-use Rattle.cert_check.specs.declared.verdict.Verdict.{Verdict}
-use Rattle.cli.specs.Checks.{AreKnown, IsChecked, IsCheckFault}
 use Rattle.cli.specs.Classifications.{IsFaultOf}
 use Rattle.session.specs.Classifications.{IsClassified}
 use Rattle.session.specs.WrittenTexts.{Texts}
 use Rattle.classification.specs.declared.classification.Summary.{Summary}
-use Rattle.cli.specs.declared.fault.CheckFault.{CheckFault}
-use Rattle.cli.specs.declared.fault.CheckFault.TheVariants as checking
 use Rattle.cli.specs.declared.fault.ClassifyFault.{ClassifyFault}
 use Rattle.cli.specs.declared.fault.ClassifyFault.TheVariants as classifying
-use Rattle.profile.specs.Documents.{OpensAs, ReadsAs}
-use Rattle.profile.specs.Faults.{OpensKnown, ReadsKnown, RefusesKnown}
-use Rattle.profile.specs.declared.fault.DocumentFault.{DocumentFault}
-use Rattle.profile.specs.declared.fault.DocumentFault.TheVariants as reading
+use Rattle.profile.specs.Documents.{OpensAs}
+use Rattle.profile.specs.Faults.{OpensKnown}
 use Rattle.profile.specs.declared.opened.Opened.{Opened}
 use Rattle.program.specs.declared.version.Version.{Version}
-
-pub all_known : (left rest : Option (List ℕ)) (bytes : List ℕ) → Consumes left rest bytes → IsAtEnd rest → AreKnown left bytes
-all_known None rest bytes all end = tt
-all_known (Some xs) None bytes all end = absurd all
-all_known (Some xs) (Some ys) bytes all end = all ∙ ap (λ zs. bytes ++ zs) end ∙ append-nil bytes
+use Rattle.receiving.proofs.Kept.{reads_file, refuses_file}
 
 -- ---- what holds of a source's bytes holds of those of its file
-
-pub reads_file : (version : Version) (file left : Option (List ℕ)) (most : ℕ) (o : Ontology) → Keeps file left → ReadsKnown version left most o → ReadsKnown version file most o
-reads_file version None left most o kept reads = tt
-reads_file version (Some xs) None most o kept reads = absurd kept
-reads_file version (Some xs) (Some ys) most o kept reads =
-    let P : List ℕ → Type 0 = λ bytes. ReadsAs version bytes o × (length bytes ≤ most) in
-    subst P kept reads
 
 pub opens_file : (version : Version) (file left : Option (List ℕ)) (most : ℕ) (d : Opened) → Keeps file left → OpensKnown version left most d → OpensKnown version file most d
 opens_file version None left most d kept opens = tt
@@ -41,23 +22,6 @@ opens_file version (Some xs) None most d kept opens = absurd kept
 opens_file version (Some xs) (Some ys) most d kept opens =
     let P : List ℕ → Type 0 = λ bytes. OpensAs version bytes d × (length bytes ≤ most) in
     subst P kept opens
-
-pub refuses_file : (version : Version) (file left : Option (List ℕ)) (most : ℕ) (fault : DocumentFault) → Keeps file left → RefusesKnown version left most fault → RefusesKnown version file most fault
-refuses_file version None left most fault kept refuses = tt
-refuses_file version (Some xs) None most fault kept refuses = absurd kept
-refuses_file version (Some xs) (Some ys) most fault kept refuses =
-    let P : List ℕ → Type 0 = λ bytes. RefusesKnown version (Some bytes) most fault in
-    subst P kept refuses
-
--- any document may be refused for want of memory
-pub refused_memory : (version : Version) (file : Option (List ℕ)) (most : ℕ) → RefusesKnown version file most reading.Memory
-refused_memory version None most = tt
-refused_memory version (Some bytes) most = tt
-
-pub known_file : (file left : Option (List ℕ)) (bytes : List ℕ) → Keeps file left → AreKnown left bytes → AreKnown file bytes
-known_file None left bytes kept known = tt
-known_file (Some xs) None bytes kept known = absurd kept
-known_file (Some xs) (Some ys) bytes kept known = sym kept ∙ known
 
 pub classified_file : (version : Version) (format : Format) (file left : Option (List ℕ)) (bytes facts : ℕ) (summary : Summary) (texts : Texts) → Keeps file left → IsClassified version format bytes facts left summary texts → IsClassified version format bytes facts file summary texts
 classified_file version format file left bytes facts summary texts kept is = record {
@@ -77,25 +41,3 @@ fault_of_file version format file left bytes facts (classifying.Document fault) 
 fault_of_file version format file left bytes facts classifying.Memory kept is = (is.0, reads_file version file left bytes is.0 kept is.1)
 fault_of_file version format file left bytes facts classifying.Limit kept is = (is.0, reads_file version file left bytes is.0 kept is.1, is.2)
 fault_of_file version format file left bytes facts (classifying.Io n) kept is = (is.0, is.1, (is.2.0, is.2.1, classified_file version format file left bytes facts is.2.0 is.2.1 kept is.2.2))
-
-pub check_fault_of_file : (version : Version) (file left : Option (List ℕ)) (most : ℕ) (fault : CheckFault) → Keeps file left → IsCheckFault version most left fault → IsCheckFault version most file fault
-check_fault_of_file version file left most (checking.Document fault) kept is = refuses_file version file left most fault kept is
-check_fault_of_file version file left most checking.Memory kept is = (is.0, reads_file version file left most is.0 kept is.1)
-check_fault_of_file version file left most (checking.Io n) kept is = (is.0, is.1, (is.2.0, reads_file version file left most is.2.0 kept is.2.1))
-
--- a check of sources is one of their files
-pub checked_files : (version : Version) (most : ℕ) (d d' t t' i i' c c' : Option (List ℕ)) (o : Ontology) (verdict : Verdict) → Keeps d d' → Keeps t t' → Keeps i i' → Keeps c c' → IsChecked version most d' t' i' c' o verdict → IsChecked version most d t i c o verdict
-checked_files version most d d' t t' i i' c c' o verdict kd kt ki kc checked = record {
-  reads = reads_file version d d' most o kd checked.reads;
-  well_formed = checked.well_formed;
-  taxonomy_text = checked.taxonomy_text;
-  instances_text = checked.instances_text;
-  certificate_text = checked.certificate_text;
-  taxonomy_is = known_file t t' checked.taxonomy_text kt checked.taxonomy_is;
-  instances_is = known_file i i' checked.instances_text ki checked.instances_is;
-  certificate_is = known_file c c' checked.certificate_text kc checked.certificate_is;
-  judged = checked.judged;
-  lines = checked.lines;
-  accepted = checked.accepted;
-  right = checked.right;
-}

@@ -2,15 +2,16 @@
 use Rattle.std.proofs.Common.{◌≡◌, ◌∙◌, ◌+◌, ◌<◌, ◌≤◌, ℕ, List, Bool, Option, Some, None, Result, Ok, Err, ap, length, refl, subst}
 use Rattle.std.specs.Prelude.{IsErrOf}
 use Rattle.std.specs.Io.KnownBytes.{Keeps}
-use Rattle.cli.proofs.Blamed.{IsCounted, some_failed}
-use Rattle.cli.proofs.Kept.{known_file}
-use Rattle.cli.proofs.ReadFiles.{IsOfFiles, read_blamed, read_there}
-use Rattle.cli.proofs.SomeTexts.{some}
-use Rattle.cli.proofs.Stored.{IsLeftBy, IsSome, sink_begins, sink_holds, sink_stays}
-use Rattle.cli.specs.Checks.{AreKnown}
-use Rattle.cli.specs.Files.{IsSourceOf, RestrictsFile, Store}
+use Rattle.receiving.proofs.Counted.{IsCounted, some_failed}
+use Rattle.receiving.proofs.Kept.{known_file}
+use Rattle.receiving.proofs.ReadFiles.{IsOfFiles, read_blamed, read_there}
+use Rattle.receiving.proofs.Spelled.{some}
+use Rattle.receiving.proofs.Stored.{IsLeftBy, IsSome, sink_begins, sink_holds, sink_stays}
+use Rattle.receiving.specs.Checks.{AreKnown}
+use Rattle.receiving.specs.Files.{IsSourceOf, Store}
+use Rattle.cli.specs.Files.{RestrictsFile}
 use Rattle.cli.specs.Restrictions.{HasBytes, IsRestrictedAs, IsRestrictionAnswer, IsRestrictionRead, IsUnrestricted}
-use Rattle.cli.specs.HeldTexts.{AreOtherFilesKept}
+use Rattle.receiving.specs.HeldTexts.{AreOtherFilesKept}
 use Rattle.cli.specs.Runs.{IsRestrictAnswer, IsRestrictionMade}
 use Rattle.cli.specs.declared.fault.RestrictionFault.{RestrictionFault}
 use Rattle.cli.specs.declared.fault.RestrictionFault.TheVariants.{Document, Unwritten}
@@ -19,7 +20,7 @@ use Rattle.profile.specs.declared.fault.DocumentFault.{DocumentFault}
 use Rattle.profile.specs.declared.fault.DocumentFault.TheVariants as reading
 use Rattle.program.specs.declared.limits.Limits.{Limits}
 use Rattle.program.specs.declared.version.Version.{Version}
-use Rattle.session.specs.Devices.{Device, FailsIn, IsReadUntil, Takes}
+use Rattle.telling.specs.Devices.{Device, FailsIn, IsReadUntil, Takes}
 use Rattle.source_lines.specs.Sources.{IsReadToItsEnd, SourceState}
 use Rattle.statements_text.specs.Restrictions.{AreRestricted, IsNotRestricted}
 use Rattle.statements_text.specs.declared.restriction.Restriction.{Restriction}

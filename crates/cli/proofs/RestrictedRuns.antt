@@ -3,15 +3,17 @@ use Rattle.std.proofs.Common.{◌≡◌, ℕ, List, Bool, Option, Some, None, Re
 use Rattle.std.specs.Borrow.{Bor}
 use Rattle.lemmas.proofs.Choices.{one_value}
 use Rattle.clap.specs.Words.{Row, Text}
-use Rattle.cli.proofs.FilesAccepted.{document_not_done, is_restrict, named, one_version, refused_told, told_not_done}
-use Rattle.cli.specs.Checks.{AreKnown}
-use Rattle.cli.specs.Files.{Store}
-use Rattle.cli.specs.HeldTexts.{Holds}
-use Rattle.cli.specs.Messages.{IsPrinted, Output}
+use Rattle.receiving.proofs.NotDone.{document_not_done, told_not_done}
+use Rattle.cli.proofs.FilesAccepted.{is_restrict, named, refused_told}
+use Rattle.receiving.proofs.OneTask.{one_version}
+use Rattle.receiving.specs.Checks.{AreKnown}
+use Rattle.receiving.specs.Files.{Store}
+use Rattle.receiving.specs.HeldTexts.{Holds}
+use Rattle.telling.specs.Printing.{IsPrinted, Output}
 use Rattle.cli.specs.Runs.{IsCommandRun, IsRestrictRun, IsRestrictTold, IsRestrictionMade}
 use Rattle.cli.specs.Theorems.{IsRestrictedInto, WhatIsRestricted}
 use Rattle.cli.specs.WordsOfRuns.{AreSameLimits, WordsOfRestrictRestrict}
-use Rattle.session.specs.Progress.{IsProgress}
+use Rattle.telling.specs.Progress.{IsProgress}
 use Rattle.cli.specs.declared.fault.RestrictionFault.{RestrictionFault}
 use Rattle.cli.specs.declared.fault.RestrictionFault.TheVariants.{Document, Unwritten}
 use Rattle.command_line.proofs.Numbers.{one_number}
@@ -22,7 +24,7 @@ use Rattle.profile.specs.Messages.{status_of}
 use Rattle.program.specs.Status.{code_of}
 use Rattle.program.specs.declared.limits.Limits.{Limits}
 use Rattle.program.specs.declared.status.Status.TheVariants as statuses
-use Rattle.session.specs.Devices.{Device, Takes}
+use Rattle.telling.specs.Devices.{Device, Takes}
 use Rattle.statements_text.proofs.WholeKept.{faultless_kept}
 use Rattle.statements_text.specs.declared.restriction.Restriction.{Restriction}
 use Rattle.system_files.specs.Contents.{Content, IsThere}
@@ -98,4 +100,5 @@ words_restrict words task document output s content content' old new status of i
       version = one_version _ _ _ of'.is.limits.version here.limits.version;
     } in
     inl (record { begun = behind.begun; unprinted = behind.unprinted; progress = subst Q same behind.progress; holds = (other.limits, same_limits, made) })
-words_restrict words task document output s content content' old new status of is taken (inr run) = inr (run.2, refused_told words task run.0 old.err new.err status of taken run.1 run.3)
+words_restrict words task document output s content content' old new status of is taken (inr (inl told)) = absurd (told.0.0 taken)
+words_restrict words task document output s content content' old new status of is taken (inr (inr run)) = inr (run.2, refused_told words task run.0 old.err new.err status of taken run.1 run.3)

@@ -6,7 +6,7 @@ use Rattle.cli.proofs.Filed.{calls_of, one_document}
 use Rattle.cli.specs.Filing.{Filed, filing_service}
 use Rattle.cli.specs.SpokenSessions.{AreRepliesTold, SpokenSessionsAreAnswered}
 use Rattle.profile.specs.Faults.{OpensKnown}
-use Rattle.session.specs.Devices.{Device}
+use Rattle.telling.specs.Devices.{Device}
 use Rattle.session.specs.Edits.{IsSessionOver}
 use Rattle.session.specs.Sessions.{as_read}
 use Rattle.source_lines.specs.Sources.{SourceState}

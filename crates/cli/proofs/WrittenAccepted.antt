@@ -8,9 +8,9 @@ use Rattle.profile.specs.Faults.{Refuses, RefusesKnown}
 use Rattle.profile.specs.declared.fault.DocumentFault.{DocumentFault}
 use Rattle.profile.specs.declared.fault.DocumentFault.TheVariants as reading
 use Rattle.program.specs.declared.version.Version.{Version}
-use Rattle.session.proofs.AnyVersion.{in_second, one_ontology}
+use Rattle.telling.proofs.OneOntology.{in_second, one_ontology}
 use Rattle.cli.specs.Theorems.{IsStop, ReadDocumentsAreNoStop, WhatIsWrittenIsAccepted}
-use Rattle.cli.specs.declared.fault.CheckFault.TheVariants.{Document, Memory, Io}
+use Rattle.receiving.specs.declared.fault.CheckFault.TheVariants.{Document, Memory, Io}
 
 acceptable_there : (o p : Ontology) (t i c t' i' c' : List ℕ) → o ≡ p → t ≡ t' → i ≡ i' → c ≡ c' → IsAcceptable o t i c → IsAcceptable p t' i' c'
 acceptable_there o p t i c t' i' c' same same_taxonomy same_instances same_certificate a =

@@ -4,20 +4,17 @@ use Rattle.axioms.specs.Ontology.{Ontology}
 use Rattle.certificate.specs.declared.format.Format.{Format}
 use Rattle.classification.specs.declared.classification.Summary.{Summary}
 use Rattle.session.specs.Classifications.{IsClassified}
-use Rattle.session.specs.Devices.{IsReadUntil}
+use Rattle.telling.specs.Devices.{IsReadUntil}
 use Rattle.source_lines.specs.Sources.{SourceState, IsReadToItsEnd}
 use Rattle.session.specs.WrittenTexts.{Sinks, Texts, AreWritten, AreWrittenUntil, all_seen}
 use Rattle.cli.specs.declared.fault.ClassifyFault.{ClassifyFault}
 use Rattle.cli.specs.declared.fault.ClassifyFault.TheVariants.{Document, Memory, Limit, Io}
+use Rattle.receiving.specs.Checks.{IsRead}
 use Rattle.device.specs.declared.device.Sink.{Ghosts}
 use Rattle.profile.specs.Faults.{ReadsKnown, RefusesKnown}
 use Rattle.engine.specs.Saturations.{HasMoreFactsThan}
 use Rattle.program.specs.declared.limits.Limits.{Limits}
 use Rattle.program.specs.declared.version.Version.{Version}
-
--- the document, of at most so many bytes, reads in the version as some ontology
-abbrev pub IsRead : Version → (most_bytes : ℕ) → (document : Option (List ℕ)) → Type 0
-IsRead version bytes document = (o : Ontology) × ReadsKnown version document bytes o
 
 -- the document reads in the version as some ontology whose closure has more facts
 abbrev pub IsBeyondLimit : Version → (most_bytes most_facts : ℕ) → (document : Option (List ℕ)) → Type 0

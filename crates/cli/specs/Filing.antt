@@ -4,8 +4,10 @@ use Rattle.std.specs.Borrow.{Bor}
 use Rattle.certificate.specs.declared.format.Format.{Format}
 use Rattle.certificate.specs.declared.format.Format.TheVariants.{Two}
 use Rattle.classification.specs.declared.classification.Summary.{Summary}
-use Rattle.cli.specs.HeldTexts.{AreApart, AreOtherFilesKept, AreOthersKept, HoldTexts, HoldTextsUntil, Holds, HoldsPrefix, Stays}
-use Rattle.cli.specs.Messages.{cannot_write, summary_text, written_path}
+use Rattle.cli.specs.HeldTexts.{AreApart, AreOthersKept, HoldTexts, HoldTextsUntil}
+use Rattle.receiving.specs.HeldTexts.{AreOtherFilesKept, Holds, HoldsPrefix, Stays}
+use Rattle.telling.specs.Messages.{cannot_write}
+use Rattle.cli.specs.Messages.{summary_text, written_path}
 use Rattle.cli.specs.declared.filing.FileService.{FileService}
 use Rattle.command_line.specs.declared.tasks.Paths.{Paths}
 use Rattle.device.specs.Device.{HasFailed}
@@ -16,10 +18,10 @@ use Rattle.program.specs.declared.status.Status.{Status}
 use Rattle.program.specs.declared.status.Status.TheVariants as statuses
 use Rattle.program.specs.declared.version.Version.{Version}
 use Rattle.session.specs.Answers.{IsMade}
-use Rattle.session.specs.Devices.{seen}
+use Rattle.telling.specs.Devices.{seen}
 use Rattle.session.specs.Edits.{Reply, IsCall, IsOneDocument, IsSessionOver, Resume}
 use Rattle.session.specs.Inferences.{IsInferred}
-use Rattle.session.specs.Progress.{IsProgress}
+use Rattle.telling.specs.Progress.{IsProgress}
 use Rattle.session.specs.Sessions.{IsSession, Opened}
 use Rattle.session.specs.WrittenTexts.{Texts}
 use Rattle.session.specs.declared.fault.WritingFault.{WritingFault}

@@ -1,23 +1,9 @@
 -- Which file holds which text.
-use Rattle.std.specs.Prelude.{◌≡◌, ℕ, zero, suc, ◌⊎◌, List, Bool, true, false, Option, Some, take}
+use Rattle.std.specs.Prelude.{◌≡◌, ℕ, zero, suc, List, Bool}
 use Rattle.command_line.specs.declared.tasks.Paths.{Paths}
 use Rattle.session.specs.WrittenTexts.{Texts}
 use Rattle.system_files.specs.Contents.{Content}
-
--- the file holds the text, as far as it is known what files hold
-abbrev pub Holds : Bool → Option (List ℕ) → List ℕ → Type 0
-Holds true held text = held ≡ Some text
-Holds false held text = Unit {0}
-
--- the file holds what it held, as far as it is known what files hold
-abbrev pub Stays : Bool → (old new : Option (List ℕ)) → Type 0
-Stays true old new = new ≡ old
-Stays false old new = Unit {0}
-
--- the file holds a prefix of the text, or what it held, as far as it is known what files hold
-abbrev pub HoldsPrefix : Bool → (old new : Option (List ℕ)) → List ℕ → Type 0
-HoldsPrefix true old new text = (new ≡ old) ⊎ ((n : ℕ) × (new ≡ Some (take n text)))
-HoldsPrefix false old new text = Unit {0}
+use Rattle.receiving.specs.HeldTexts.{Holds, Stays, HoldsPrefix}
 
 -- the three texts have three paths
 pub record AreApart (paths : Paths) : Type 0 where
@@ -49,7 +35,3 @@ HoldTextsUntil n known paths texts old new = ⊥
 abbrev pub AreOthersKept : Paths → (content content' : Content) → Type 0
 AreOthersKept paths content content' =
     (path : List ℕ) → ¬ (path ≡ paths.taxonomy.now) → ¬ (path ≡ paths.instances.now) → ¬ (path ≡ paths.certificate.now) → content' path ≡ content path
-
--- files at other paths are as they were
-abbrev pub AreOtherFilesKept : (path : List ℕ) → (content content' : Content) → Type 0
-AreOtherFilesKept path content content' = (other : List ℕ) → ¬ (other ≡ path) → content' other ≡ content other

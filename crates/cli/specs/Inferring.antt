@@ -5,7 +5,7 @@ use Rattle.cli.specs.declared.fault.InferenceFault.{InferenceFault}
 use Rattle.cli.specs.declared.fault.InferenceFault.TheVariants.{Run, Unwritten}
 use Rattle.device.specs.declared.device.Sink.{Ghosts}
 use Rattle.program.specs.declared.limits.Limits.{Limits}
-use Rattle.session.specs.Devices.{FailsIn, IsReadUntil, Takes, seen}
+use Rattle.telling.specs.Devices.{FailsIn, IsReadUntil, Takes, seen}
 use Rattle.session.specs.Inferences.{IsInferredOf}
 use Rattle.session.specs.Run.{IsRunFault}
 use Rattle.session.specs.declared.run_fault.RunFault.TheVariants.{Document, Limit, Memory}

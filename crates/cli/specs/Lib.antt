@@ -1,7 +1,5 @@
 pub mod Messages
 pub mod Classifications
-pub mod Checks
-pub mod Conversions
 pub mod Restrictions
 pub mod Inferring
 pub mod FileSinks
@@ -13,4 +11,3 @@ pub mod SpokenSessions
 pub mod Runs
 pub mod Theorems
 pub mod WordsOfRuns
-pub mod Starts

@@ -1,6 +1,6 @@
 -- What a restriction of a document to the profile says.
 use Rattle.std.specs.Prelude.{◌≡◌, ◌≤◌, ℕ, List, Option, Result, Ok, Err, length}
-use Rattle.cli.specs.Checks.{AreKnown}
+use Rattle.receiving.specs.Checks.{AreKnown}
 use Rattle.cli.specs.declared.fault.RestrictionFault.{RestrictionFault}
 use Rattle.cli.specs.declared.fault.RestrictionFault.TheVariants.{Document, Unwritten}
 use Rattle.device.specs.Device.{IsLongerThan}
@@ -9,7 +9,7 @@ use Rattle.profile.specs.declared.fault.DocumentFault.{DocumentFault}
 use Rattle.profile.specs.declared.fault.DocumentFault.TheVariants as reading
 use Rattle.program.specs.declared.limits.Limits.{Limits}
 use Rattle.program.specs.declared.version.Version.{Version}
-use Rattle.session.specs.Devices.{FailsIn, IsReadUntil, Takes, seen}
+use Rattle.telling.specs.Devices.{FailsIn, IsReadUntil, Takes, seen}
 use Rattle.source_lines.specs.Sources.{IsReadToItsEnd, SourceState}
 use Rattle.statements_text.specs.Restrictions.{AreRestricted, IsNotRestricted}
 use Rattle.statements_text.specs.declared.restriction.Restriction.{Restriction}

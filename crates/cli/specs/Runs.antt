@@ -1,42 +1,36 @@
 -- What a run of the program does.
-use Rattle.std.specs.Prelude.{◌≡◌, ℕ, ◌⊎◌, List, Bool, true, false, Result, Ok, Err, ◌++◌, codes, string_bytes}
+use Rattle.std.specs.Prelude.{◌≡◌, ℕ, ◌⊎◌, List, [], ◌∷◌, Bool, true, false, Result, Ok, Err, string_bytes}
 use Rattle.certificate.specs.declared.format.Format.{Format}
-use Rattle.certificate.specs.declared.format.Format.TheVariants.{One, Two}
 use Rattle.classification.specs.declared.classification.Summary.{Summary}
 use Rattle.clap.specs.Words.{Text}
-use Rattle.command_line.specs.CommandLine.{IsTaskOf, Refuses}
+use Rattle.command_line.specs.CommandLine.{AskForVersion, Gives, IsTaskOf, Refuses}
 use Rattle.command_line.specs.declared.tasks.Command.{Command}
 use Rattle.command_line.specs.declared.tasks.Command.TheVariants.{Ask, Check, Classify, Convert, Infer, Query, Restrict, Session}
-use Rattle.command_line.specs.declared.tasks.Conversion.{Conversion}
-use Rattle.command_line.specs.declared.tasks.FormatNumber.{FormatNumber}
-use Rattle.command_line.specs.declared.tasks.FormatNumber.TheVariants as numbers
+use Rattle.command_line.specs.declared.tasks.Invocation.TheVariants as invocations
 use Rattle.command_line.specs.declared.tasks.LineFault.{LineFault}
 use Rattle.command_line.specs.declared.tasks.Paths.{Paths}
 use Rattle.command_line.specs.declared.tasks.Task.{Task}
-use Rattle.certificate_text.specs.declared.conversion.ConvertFault.{ConvertFault}
-use Rattle.certificate_text.specs.declared.conversion.ConvertFault.TheVariants as converting
-use Rattle.cli.specs.Checks.{IsCheckAnswer}
-use Rattle.cli.specs.Conversions.{IsConversionAnswer}
 use Rattle.cli.specs.Inferring.{IsInferenceAnswer}
 use Rattle.cli.specs.Restrictions.{IsRestrictionAnswer}
-use Rattle.cli.specs.declared.fault.ConversionFault.{ConversionFault}
-use Rattle.cli.specs.declared.fault.ConversionFault.TheVariants.{Certificate, Document, Unread}
 use Rattle.profile.specs.Messages.{status_of}
-use Rattle.program.specs.Status.{code_of}
-use Rattle.std.specs.Fmt.{decimal}
 use Rattle.std.specs.Global.{Vec}
 use Rattle.answers.specs.Questions.{names_in}
 use Rattle.program.specs.declared.question.Question.{Question}
-use Rattle.cli.specs.Files.{AsksFile, ChecksFiles, ClassifiesFile, ConvertsFiles, InfersFile, RestrictsFile, Store, store}
-use Rattle.cli.specs.Messages.{BehindProgress, Output, IsAnswered, IsPrinted, IsTold, cannot_write, out_of_memory, rejected_text, unconverted_text, verdict_text, verdict_status, outputs, summary_text, IsCheckText, check_status, IsClassifyText, classify_status, IsLineTold}
-use Rattle.speech.specs.Messages.{IsDocumentText, IsQuestionText, cannot_read, question_status}
+use Rattle.program.specs.declared.question.Question.TheVariants.{Unsatisfiable}
+use Rattle.program.specs.declared.question.Spelling.{Spelling}
+use Rattle.cli.specs.Files.{AsksFile, ClassifiesFile, InfersFile, RestrictsFile}
+use Rattle.receiving.specs.Files.{Store, store}
+use Rattle.telling.specs.Printing.{BehindProgress, Output, IsAnswered, IsTold, outputs}
+use Rattle.telling.specs.Messages.{cannot_write, IsDocumentText}
+use Rattle.cli.specs.Messages.{summary_text, version_text, IsClassifyText, classify_status}
+use Rattle.receiving.specs.Messages.{IsLineTold}
+use Rattle.speech.specs.Messages.{IsQuestionText, question_status}
 use Rattle.cli.specs.Classifications.{IsFaultOf}
-use Rattle.cli.specs.HeldTexts.{AreApart, AreOtherFilesKept, AreOthersKept, HoldTexts, HoldTextsUntil, Holds, HoldsPrefix, Stays}
+use Rattle.cli.specs.HeldTexts.{AreApart, AreOthersKept, HoldTexts, HoldTextsUntil}
+use Rattle.receiving.specs.HeldTexts.{AreOtherFilesKept, Holds, HoldsPrefix, Stays}
 use Rattle.session.specs.Classifications.{IsClassified}
 use Rattle.session.specs.WrittenTexts.{Texts}
 use Rattle.cli.specs.Speaking.{IsSessionRun}
-use Rattle.cli.specs.declared.checking.Checked.{Checked}
-use Rattle.cli.specs.declared.fault.CheckFault.{CheckFault}
 use Rattle.cli.specs.declared.fault.ClassifyFault.{ClassifyFault}
 use Rattle.cli.specs.declared.fault.ClassifyFault.TheVariants.{Io}
 use Rattle.cli.specs.declared.fault.InferenceFault.{InferenceFault}
@@ -45,8 +39,8 @@ use Rattle.cli.specs.declared.fault.RestrictionFault.{RestrictionFault}
 use Rattle.cli.specs.declared.fault.RestrictionFault.TheVariants as restricting
 use Rattle.device.specs.declared.device.Sink as sinks
 use Rattle.program.specs.declared.limits.Limits.{Limits}
+use Rattle.program.specs.declared.status.Status.{Status}
 use Rattle.program.specs.declared.status.Status.TheVariants as statuses
-use Rattle.program.specs.declared.version.Version.{Version}
 use Rattle.session.specs.Run.{question_fault}
 use Rattle.session.specs.TextAnswers as asking
 use Rattle.session.specs.TextAnswers.{AnswersQuery, AnswersQuestion}
@@ -54,6 +48,7 @@ use Rattle.session.specs.declared.question_fault.QuestionFault.{QuestionFault}
 use Rattle.statements_text.specs.declared.restriction.Restriction.{Restriction}
 use Rattle.system_files.specs.Contents.{Content}
 use Rattle.system_files.specs.declared.files.Files as files
+use Rattle.receiving.specs.Runs.{format_of, IsCheckRun, IsConvertRun}
 
 -- ---- what the files hold behind a classification
 
@@ -63,11 +58,6 @@ AreLeft paths format limits known content content' (Io n) =
     (summary : Summary) × (texts : Texts) × IsClassified limits.version format limits.max_bytes limits.max_facts (content paths.document.now) summary texts
     × (AreApart paths → HoldTextsUntil n known paths texts content content')
 AreLeft paths format limits known content content' fault = (path : List ℕ) → Stays known (content path) (content' path)
-
--- the format of that number
-abbrev pub format_of : FormatNumber → Format
-format_of numbers.One = One
-format_of numbers.Two = Two
 
 -- ---- runs: what the answer of the call says, and how it is told
 
@@ -95,55 +85,6 @@ pub record IsClassifyRun (paths : Paths) (format : Format) (limits : Limits) (s 
   pub answer : Result Summary ClassifyFault
   pub made : IsClassifyMade paths format limits s content content' answer
   pub told : IsClassifyTold paths limits answer old new status
-
--- what an answer says of a check of files: the verdict on them; or why there is none
-abbrev pub IsCheckedFiles : Paths → Version → (bytes : ℕ) → Content → Result Checked CheckFault → Type 0
-IsCheckedFiles paths version bytes content answer =
-    IsCheckAnswer version bytes (content paths.document.now) (content paths.taxonomy.now) (content paths.instances.now) (content paths.certificate.now) answer
-
--- the verdict is printed; or a fault is told
-abbrev pub IsCheckTold : Paths → (bytes : ℕ) → Result Checked CheckFault → (old new : Output) → (status : ℕ) → Type 0
-IsCheckTold paths bytes (Ok checked) old new status = IsAnswered old new (verdict_text checked.ontology checked.verdict) (verdict_status checked.verdict) status
-IsCheckTold paths bytes (Err fault) old new status = (new.out ≡ old.out) × IsTold old.err new.err (IsCheckText paths bytes fault) (check_status fault) status
-
--- a run of `check`
-pub record IsCheckRun (paths : Paths) (version : Version) (bytes : ℕ) (s : Store) (content : Content) (old new : Output) (status : ℕ) : Type 0 where
-  pub answer : Result Checked CheckFault
-  pub checked : IsCheckedFiles paths version bytes content answer
-  pub blames : ChecksFiles s.reads_fail s.is_known content paths answer
-  pub told : IsCheckTold paths bytes answer old new status
-
--- what an answer says of the document, of the certificate's text, and of the file that is written
-abbrev pub IsConvertAnswer : {X : Type 0} → Conversion → Limits → (known : Bool) → (content content' : Content) → Result X ConversionFault → Type 0
-IsConvertAnswer c limits known content content' answer =
-    IsConversionAnswer limits.version limits.max_bytes (format_of c.format) (content c.document.now) (content c.certificate.now)
-    (Holds known (content' c.output.now)) (HoldsPrefix known (content c.output.now) (content' c.output.now)) (Stays known (content c.output.now) (content' c.output.now)) answer
-
--- the answer is that of a conversion of files, no other file is written, and a device is blamed only where it failed
-pub record IsConversionMade {X : Type 0} (c : Conversion) (limits : Limits) (s : Store) (content content' : Content) (answer : Result X ConversionFault) : Type 0 where
-  pub answered : IsConvertAnswer c limits s.is_known content content' answer
-  pub blames : ConvertsFiles s content c answer
-  pub others : AreOtherFilesKept c.output.now content content'
-
--- what is told of a certificate that is not converted
-abbrev pub IsUnconvertedTold : (path : List ℕ) → ConvertFault → (old new : Output) → (status : ℕ) → Type 0
-IsUnconvertedTold path (converting.BadText at) old new status = IsAnswered old new (rejected_text (codes "C1 at byte " ++ decimal at)) statuses.Rejected status
-IsUnconvertedTold path (converting.LaterPremise line) old new status = IsAnswered old new (unconverted_text line) statuses.Rejected status
-IsUnconvertedTold path converting.Io old new status = (new.out ≡ old.out) × IsTold old.err new.err (λ text. text ≡ cannot_write path) statuses.File status
-IsUnconvertedTold path converting.Memory old new status = (new.out ≡ old.out) × IsPrinted old.err new.err out_of_memory statuses.Memory status
-
--- nothing is printed; or a fault is told
-abbrev pub IsConvertTold : {X : Type 0} → Conversion → (bytes : ℕ) → Result X ConversionFault → (old new : Output) → (status : ℕ) → Type 0
-IsConvertTold c bytes (Ok x) old new status = (new ≡ old) × (status ≡ code_of statuses.Done)
-IsConvertTold c bytes (Err (Document fault)) old new status = (new.out ≡ old.out) × IsTold old.err new.err (IsDocumentText c.document.now bytes fault) (status_of fault) status
-IsConvertTold c bytes (Err Unread) old new status = (new.out ≡ old.out) × IsTold old.err new.err (λ text. text ≡ cannot_read c.certificate.now) statuses.File status
-IsConvertTold c bytes (Err (Certificate fault)) old new status = IsUnconvertedTold c.output.now fault old new status
-
--- a run of `convert`
-pub record IsConvertRun (c : Conversion) (limits : Limits) (s : Store) (content content' : Content) (old new : Output) (status : ℕ) : Type 0 where
-  pub answer : Result (Unit {0}) ConversionFault
-  pub made : IsConversionMade c limits s content content' answer
-  pub told : IsConvertTold c limits.max_bytes answer old new status
 
 -- what an answer says of the document, and of the file that is written
 abbrev pub IsRestrictAnswer : (document output : List ℕ) → Limits → (known : Bool) → (content content' : Content) → Result Restriction RestrictionFault → Type 0
@@ -199,25 +140,35 @@ abbrev pub IsQuestionAnswer : (List ℕ → Type 0) → (QuestionFault → Type 
 IsQuestionAnswer Answers IsFault (Ok text) = Answers text.items
 IsQuestionAnswer Answers IsFault (Err fault) = IsFault fault
 
--- the text is printed; or a fault is told
-abbrev pub IsQuestionTold : (path : List ℕ) → Limits → Result (Vec ℕ) QuestionFault → (old new : Output) → (status : ℕ) → Type 0
-IsQuestionTold path limits (Ok text) old new status = IsAnswered old new text.items statuses.Done status
-IsQuestionTold path limits (Err fault) old new status =
+-- the status that goes with a text: where classes are told that are unsatisfiable it is that of a rejection
+abbrev pub text_status : Question → (text : List ℕ) → Status
+text_status Unsatisfiable (byte ∷ text) = statuses.Rejected
+text_status question text = statuses.Done
+
+-- and that of an answer which is one
+abbrev pub answer_status : Question → Result (Vec ℕ) QuestionFault → Status
+answer_status question (Ok text) = text_status question text.items
+answer_status question (Err fault) = statuses.Done
+
+-- the text is printed, with this status; or a fault is told
+abbrev pub IsQuestionTold : (path : List ℕ) → Limits → Status → Result (Vec ℕ) QuestionFault → (old new : Output) → (status : ℕ) → Type 0
+IsQuestionTold path limits answered_with (Ok text) old new status = IsAnswered old new text.items answered_with status
+IsQuestionTold path limits answered_with (Err fault) old new status =
     (new.out ≡ old.out) × IsTold old.err new.err (IsQuestionText path limits.max_bytes limits.max_facts fault) (question_status fault) status
 
--- a run that asks a question: its answer is printed; or a fault is told
-pub record IsAskRun (path : List ℕ) (question : Question) (limits : Limits) (s : Store) (content : Content) (old new : Output) (status : ℕ) : Type 0 where
+-- a run that asks a question: its answer is printed, with names spelled so; or a fault is told
+pub record IsAskRun (path : List ℕ) (question : Question) (spelling : Spelling) (limits : Limits) (s : Store) (content : Content) (old new : Output) (status : ℕ) : Type 0 where
   pub answer : Result (Vec ℕ) QuestionFault
-  pub answered : IsQuestionAnswer (AnswersQuestion limits (content path) question) (asking.IsFaultOf limits (content path) (names_in question)) answer
+  pub answered : IsQuestionAnswer (AnswersQuestion limits (content path) question spelling) (asking.IsFaultOf limits (content path) (names_in question)) answer
   pub blames : AsksFile s.reads_fail s.is_known (content path) answer
-  pub told : IsQuestionTold path limits answer old new status
+  pub told : IsQuestionTold path limits (answer_status question answer) answer old new status
 
--- a run of `query`: the classes above and below the expression that the text is, and its individuals, are printed; or a fault is told
-pub record IsQueryRun (path text : List ℕ) (limits : Limits) (s : Store) (content : Content) (old new : Output) (status : ℕ) : Type 0 where
+-- a run of `query`: the classes above and below the expression that the text is, and its individuals, are printed, spelled so; or a fault is told
+pub record IsQueryRun (path text : List ℕ) (spelling : Spelling) (limits : Limits) (s : Store) (content : Content) (old new : Output) (status : ℕ) : Type 0 where
   pub answer : Result (Vec ℕ) QuestionFault
-  pub answered : IsQuestionAnswer (AnswersQuery limits (content path) text) (asking.IsQueryFaultOf limits (content path) text) answer
+  pub answered : IsQuestionAnswer (AnswersQuery limits (content path) text spelling) (asking.IsQueryFaultOf limits (content path) text) answer
   pub blames : AsksFile s.reads_fail s.is_known (content path) answer
-  pub told : IsQuestionTold path limits answer old new status
+  pub told : IsQuestionTold path limits statuses.Done answer old new status
 
 -- a run of a command within the limits
 abbrev pub IsCommandRun : (told : Bool) → Command → Limits → Store → (content content' : Content) → (old new : Output) → (status : ℕ) → Type 0
@@ -226,14 +177,16 @@ IsCommandRun told (Check paths) limits s content content' old new status = IsChe
 IsCommandRun told (Convert conversion) limits s content content' old new status = IsConvertRun conversion limits s content content' old new status
 IsCommandRun told (Restrict document output) limits s content content' old new status = IsRestrictRun document.now output.now limits s content content' old new status
 IsCommandRun told (Infer document output) limits s content content' old new status = IsInferRun document.now output.now limits s content content' old new status
-IsCommandRun told (Ask document question) limits s content content' old new status = IsAskRun document.now question limits s content old new status
-IsCommandRun told (Query document expression) limits s content content' old new status = IsQueryRun document.now expression.now limits s content old new status
+IsCommandRun told (Ask document question spelling) limits s content content' old new status = IsAskRun document.now question spelling limits s content old new status
+IsCommandRun told (Query document expression spelling) limits s content content' old new status = IsQueryRun document.now expression.now spelling limits s content old new status
 IsCommandRun told (Session document) limits s content content' old new status = IsSessionRun told document limits s content content' old new status
 
--- a run of the program: of the task that the words ask for, behind its progress; or the words are no task, which is told
+-- a run of the program: of the task that the words ask for, behind its progress; or they ask for the version, which is told, and no file is
+-- written; or they ask for nothing that the program does, which is told
 abbrev pub IsPerformed : List Text → Store → (content content' : Content) → (old new : Output) → (status : ℕ) → Type 0
 IsPerformed words s content content' old new status =
-    ((task : Task) × IsTaskOf words task × BehindProgress task.progress old (λ begun. IsCommandRun task.progress task.command task.limits s content content' begun new status))
+    ((task : Task) × IsTaskOf words task × BehindProgress task.progress old (λ begun. IsCommandRun task.progress task.command task.limits s content content' begun new status) × ¬ AskForVersion words)
+    ⊎ (Gives words invocations.Version × (content' ≡ content) × IsAnswered old new version_text statuses.Done status)
     ⊎ ((fault : LineFault) × Refuses words fault × (new.out ≡ old.out) × IsLineTold fault old.err new.err status)
 
 -- a classification, a conversion, a restriction, an inference and a session write files

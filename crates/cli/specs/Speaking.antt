@@ -1,9 +1,10 @@
 -- A run that keeps a document, and answers commands.
 use Rattle.std.specs.Prelude.{◌≡◌, ◌⊎◌, ℕ, List, [], Bool, Option, codes}
 use Rattle.std.specs.Borrow.{Bor}
-use Rattle.cli.specs.Files.{BlamesFile, IsSourceOf, NoWriteFails, Store}
+use Rattle.receiving.specs.Files.{BlamesFile, IsSourceOf, NoWriteFails, Store}
 use Rattle.cli.specs.Filing.{filing_service}
-use Rattle.cli.specs.Messages.{IsPrinted, IsTold, Output, out_of_memory}
+use Rattle.telling.specs.Printing.{IsPrinted, IsTold, Output}
+use Rattle.telling.specs.Messages.{out_of_memory, IsDocumentText}
 use Rattle.profile.specs.Faults.{OpensKnown, RefusesKnown}
 use Rattle.profile.specs.Messages.{status_of}
 use Rattle.profile.specs.declared.fault.DocumentFault.{DocumentFault}
@@ -13,7 +14,6 @@ use Rattle.program.specs.declared.status.Status.TheVariants as statuses
 use Rattle.session.specs.Sessions.{IsSession, Opened, as_read}
 use Rattle.source_lines.specs.Sources.{SourceState}
 use Rattle.speech.specs.Conversations.{IsConversation}
-use Rattle.speech.specs.Messages.{IsDocumentText}
 use Rattle.speech.specs.Turns.{status_of_end}
 use Rattle.speech.specs.declared.conversation.Ending.{Ending}
 use Rattle.speech.specs.declared.session_service.SessionService.{SessionService}

@@ -2,13 +2,13 @@
 use Rattle.std.specs.Prelude.{◌≡◌, ◌⊎◌, ◌++◌, ℕ, List, [], Bool, Some}
 use Rattle.std.specs.Borrow.{Bor}
 use Rattle.std.specs.List.{flat_map}
-use Rattle.cli.specs.Files.{Store}
-use Rattle.cli.specs.Messages.{Output}
+use Rattle.receiving.specs.Files.{Store}
+use Rattle.telling.specs.Printing.{Output}
 use Rattle.cli.specs.Speaking.{IsSpoken, input_path}
 use Rattle.program.specs.Status.{code_of}
 use Rattle.program.specs.declared.limits.Limits.{Limits}
 use Rattle.program.specs.declared.version.Version.{Version}
-use Rattle.session.specs.Devices.{Device, FailsIn, Takes}
+use Rattle.telling.specs.Devices.{Device, FailsIn, Takes}
 use Rattle.session.specs.Edits.{IsOneDocument, IsSessionOver}
 use Rattle.session.specs.Sessions.{Opened}
 use Rattle.speech.specs.Conversations.{Exchange, text_asked, told_of}

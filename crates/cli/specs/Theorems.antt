@@ -2,27 +2,31 @@
 use Rattle.std.specs.Prelude.{◌≡◌, ◌<◌, ◌≤◌, ℕ, ◌⊎◌, List, [], Option, Result, Ok, Err, Some, true, codes, length}
 use Rattle.axioms.specs.Numbering.{IsOntologyOf}
 use Rattle.axioms.specs.Ontology.{Ontology}
-use Rattle.cert_check.specs.Acceptance.{AreRight, IsAcceptable}
+use Rattle.cert_check.specs.Acceptance.{IsAcceptable}
 use Rattle.cert_check.specs.declared.verdict.Verdict.TheVariants.{Accepted}
 use Rattle.certificate.specs.declared.format.Format.{Format}
 use Rattle.classification.specs.Classifications.{AreCountsOf, IsWrittenIn}
 use Rattle.classification.specs.declared.classification.Summary.{Summary}
 use Rattle.command_line.specs.declared.tasks.Paths.{Paths}
-use Rattle.cli.specs.Checks.{IsCheckAnswer}
-use Rattle.cli.specs.Files.{Store}
-use Rattle.cli.specs.HeldTexts.{AreApart, AreOtherFilesKept}
-use Rattle.cli.specs.Runs.{IsCheckRun, IsClassifyRun, IsInferRun, IsRestrictRun}
-use Rattle.cli.specs.Messages.{Output, IsAnswered, IsCheckText, IsTold, check_status, summary_text}
+use Rattle.receiving.specs.Checks.{IsCheckAnswer}
+use Rattle.receiving.specs.Files.{Store}
+use Rattle.cli.specs.HeldTexts.{AreApart}
+use Rattle.receiving.specs.HeldTexts.{AreOtherFilesKept}
+use Rattle.receiving.specs.Runs.{IsCheckRun}
+use Rattle.cli.specs.Runs.{IsClassifyRun, IsInferRun, IsRestrictRun}
+use Rattle.telling.specs.Printing.{Output, IsAnswered, IsTold}
+use Rattle.receiving.specs.Messages.{IsCheckText, check_status}
+use Rattle.cli.specs.Messages.{summary_text}
 use Rattle.cli.specs.Classifications.{IsClassification}
 use Rattle.session.specs.Classifications.{IsClassified}
-use Rattle.session.specs.Devices.{Device, Takes}
+use Rattle.telling.specs.Devices.{Device, Takes}
 use Rattle.session.specs.Inferences.{IsInferred}
 use Rattle.session.specs.WrittenTexts.{Texts, AreWritten, Sinks}
 use Rattle.shapes.specs.Faults.{document_faults}
 use Rattle.statements_text.specs.Restrictions.{faulty, kept_statements, report_text}
-use Rattle.cli.specs.declared.checking.Checked.{Checked}
-use Rattle.cli.specs.declared.fault.CheckFault.{CheckFault}
-use Rattle.cli.specs.declared.fault.CheckFault.TheVariants.{Document, Memory, Io}
+use Rattle.receiving.specs.declared.checking.Checked.{Checked}
+use Rattle.receiving.specs.declared.fault.CheckFault.{CheckFault}
+use Rattle.receiving.specs.declared.fault.CheckFault.TheVariants.{Document, Memory, Io}
 use Rattle.cli.specs.declared.fault.ClassifyFault.{ClassifyFault}
 use Rattle.cli.specs.declared.fault.ClassifyFault.TheVariants as classifying
 use Rattle.fs_parser.specs.Document as parsed
@@ -36,6 +40,7 @@ use Rattle.program.specs.declared.status.Status.TheVariants as statuses
 use Rattle.program.specs.declared.version.Version.{Version}
 use Rattle.program.specs.declared.version.Version.TheVariants.{Two}
 use Rattle.system_files.specs.Contents.{Content}
+use Rattle.receiving.specs.Theorems.{AreSamePaths}
 
 -- a classification that is stopped by this fault says nothing of the document: memory was refused, or a device failed. Or the
 -- closure of its ontology has more facts than the limit
@@ -91,32 +96,7 @@ abbrev pub ReadDocumentsAreNoStop : Type 0
 ReadDocumentsAreNoStop =
     (written checked : Version) (bytes : List ℕ) (o : Ontology) → ReadsAs written bytes o → (checked ≡ written) ⊎ (checked ≡ Two) → ¬ ReadAsNone checked bytes
 
--- ---- accepted texts are right
-
--- the document reads in the version as this ontology, and in none as another; the taxonomy and the instances say what follows from its
--- axioms, as the certificate shows; and no other taxonomy and instances are acceptable for it
-pub record AreRightFor (version : Version) (document taxonomy instances certificate : List ℕ) : Type 0 where
-  pub ontology : Ontology
-  pub reads : ReadsAs version document ontology
-  pub only : (other : Version) (o : Ontology) → ReadsAs other document o → o ≡ ontology
-  pub right : AreRight ontology taxonomy instances certificate
-  pub determined : (others others' text : List ℕ) → IsAcceptable ontology others others' text → (others ≡ taxonomy) × (others' ≡ instances)
-
--- texts that a check of a document accepts, whoever made them, are right for it
-abbrev pub AcceptedTextsAreRight : Type 0
-AcceptedTextsAreRight =
-    (version : Version) (most : ℕ) (document taxonomy instances certificate : List ℕ) (checked : Checked) →
-    IsCheckAnswer version most (Some document) (Some taxonomy) (Some instances) (Some certificate) (Ok checked) → checked.verdict ≡ Accepted →
-    AreRightFor version document taxonomy instances certificate
-
 -- ---- written files are accepted
-
--- both name the same four paths
-pub record AreSamePaths (p q : Paths) : Type 0 where
-  pub document : p.document.now ≡ q.document.now
-  pub taxonomy : p.taxonomy.now ≡ q.taxonomy.now
-  pub instances : p.instances.now ≡ q.instances.now
-  pub certificate : p.certificate.now ≡ q.certificate.now
 
 -- the document's path is none of the texts'
 pub record IsDocumentApart (paths : Paths) : Type 0 where
@@ -141,16 +121,6 @@ WrittenFilesAreAccepted =
     AreSamePaths paths paths' → AreApart paths → IsDocumentApart paths → s.is_known ≡ true → content paths.document.now ≡ Some document →
     IsClassifyRun paths format limits s content content' old new (code_of statuses.Done) → IsCheckRun paths' version most s' content' old' new' status →
     IsAcceptedRun version most document old' new' status
-
--- ---- accepted files are right
-
--- texts in files that a run of `check` with status 0 accepts, whoever made them, are right for the document there
-abbrev pub AcceptedFilesAreRight : Type 0
-AcceptedFilesAreRight =
-    (paths : Paths) (version : Version) (most : ℕ) (s : Store) (content : Content) (old new : Output) (document taxonomy instances certificate : List ℕ) →
-    content paths.document.now ≡ Some document → content paths.taxonomy.now ≡ Some taxonomy → content paths.instances.now ≡ Some instances → content paths.certificate.now ≡ Some certificate →
-    IsCheckRun paths version most s content old new (code_of statuses.Done) →
-    AreRightFor version document taxonomy instances certificate
 
 -- ---- what is restricted
 

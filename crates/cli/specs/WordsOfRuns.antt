@@ -1,18 +1,22 @@
 -- Which run of a command words of the program ask for.
-use Rattle.std.specs.Prelude.{◌≡◌, ◌⊎◌, ℕ, List, true}
+use Rattle.std.specs.Prelude.{◌≡◌, ◌⊎◌, ℕ, List, [], ◌∷◌, codes, true}
 use Rattle.std.specs.Borrow.{Bor}
 use Rattle.clap.specs.Words.{Text, takes}
-use Rattle.cli.specs.Files.{Store}
-use Rattle.cli.specs.Messages.{BehindProgress, Output, IsLineTold}
-use Rattle.cli.specs.Runs.{IsCheckRun, IsClassifyRun, IsInferRun, IsPerformed, IsRestrictRun, format_of}
-use Rattle.cli.specs.Theorems.{AreSamePaths}
-use Rattle.command_line.specs.CommandLine.{IsTaskOf, elc_app}
+use Rattle.receiving.specs.Files.{Store}
+use Rattle.telling.specs.Printing.{BehindProgress, IsAnswered, Output}
+use Rattle.receiving.specs.Messages.{IsLineTold}
+use Rattle.receiving.specs.Runs.{IsCheckRun, format_of}
+use Rattle.cli.specs.Messages.{version_text}
+use Rattle.cli.specs.Runs.{IsClassifyRun, IsInferRun, IsPerformed, IsRestrictRun}
+use Rattle.receiving.specs.Theorems.{AreSamePaths}
+use Rattle.command_line.specs.CommandLine.{AskForVersion, IsTaskOf, elc_app}
 use Rattle.command_line.specs.declared.tasks.Command.TheVariants.{Check, Classify, Infer, Restrict}
 use Rattle.command_line.specs.declared.tasks.FormatNumber.{FormatNumber}
 use Rattle.command_line.specs.declared.tasks.LineFault.TheVariants as line
 use Rattle.command_line.specs.declared.tasks.Paths.{Paths}
 use Rattle.command_line.specs.declared.tasks.Task.{Task}
 use Rattle.program.specs.declared.limits.Limits.{Limits}
+use Rattle.program.specs.declared.status.Status.TheVariants as statuses
 use Rattle.system_files.specs.Contents.{Content}
 
 -- a run of the program whose words ask for a check of these paths is a run of `check` on the same paths within the limits that the words
@@ -53,3 +57,15 @@ WordsOfInferInfer =
     IsTaskOf words task → task.command ≡ Infer document output → takes elc_app words ≡ true → IsPerformed words s content content' old new status →
     BehindProgress task.progress old (λ begun. (limits : Limits) × AreSameLimits limits task.limits × IsInferRun document.now output.now limits s content content' begun new status)
     ⊎ ((new.out ≡ old.out) × IsLineTold line.Memory old.err new.err status)
+
+-- and one whose words ask for the version prints it, and writes no file
+abbrev pub WordsOfVersionTell : Type 0
+WordsOfVersionTell =
+    (words : List Text) (s : Store) (content content' : Content) (old new : Output) (status : ℕ) →
+    AskForVersion words → IsPerformed words s content content' old new status →
+    ((content' ≡ content) × IsAnswered old new version_text statuses.Done status)
+    ⊎ ((new.out ≡ old.out) × IsLineTold line.Memory old.err new.err status)
+
+-- the option alone asks for it
+abbrev pub VersionIsAWord : Type 0
+VersionIsAWord = AskForVersion (codes "elc" ∷ codes "--version" ∷ [])

@@ -1,8 +1,8 @@
 //! Classification of a document.
 ghost use Rattle.source_lines.specs.Sources.{source_state};
 ghost use Rattle.cli.specs.Classifications.{Classifies, IsDocumentRead};
-ghost use Rattle.session.specs.Devices.{seen};
-ghost use Rattle.session.specs.Progress.{IsProgress};
+ghost use Rattle.telling.specs.Devices.{seen};
+ghost use Rattle.telling.specs.Progress.{IsProgress};
 ghost use Rattle.session.specs.WrittenTexts.{KeepPaths};
 ghost use Rattle.cli.specs.declared.fault.ClassifyFault.TheVariants as faults;
 ghost use Rattle.profile.specs.declared.fault.DocumentFault.TheVariants as document_faults;
@@ -13,9 +13,10 @@ use certificate::Format;
 use classification::Summary;
 use device::{Sink, Source};
 use profile::Limits;
-use session::{RunFault, Stage, classification_of, tell_stage, write_texts};
+use session::{RunFault, classification_of, write_texts};
 use std::alloc::Global;
 use std::hash::RandomState;
+use telling::{Stage, tell_stage};
 
 /// Reads the document, classifies it, and writes the taxonomy, the instances and the certificate, which is in the format,
 /// in this order. All three are made in memory before anything is written. Where progress is told, the sink is told how far it is.

@@ -1,6 +1,5 @@
-//! Why a document is not classified, checked or restricted, nothing inferred of it, or its certificate not converted.
+//! Why a document is not classified or restricted, or nothing inferred of it.
 
-use certificate_text::ConvertFault;
 use profile::DocumentFault;
 use session::RunFault;
 use thiserror::Error;
@@ -20,21 +19,6 @@ pub enum ClassifyFault {
     /// The sink of that number failed: 1 is the taxonomy's, 2 the instances', 3 the certificate's. Those before it have
     /// taken their whole text, this one a prefix of its text, those behind it nothing.
     #[error("sink {0} failed")]
-    Io(usize),
-}
-
-/// Why texts were not checked. No verdict is given.
-#[derive(Debug, Drop, Error)]
-pub enum CheckFault {
-    /// The document was not read.
-    #[error(transparent)]
-    Document(DocumentFault),
-    /// Memory was refused once the document was read.
-    #[error("out of memory")]
-    Memory,
-    /// The source of that number failed: 2 is the taxonomy's, 3 the instances', 4 the certificate's. (That of the
-    /// document, the first, is told inside `Document`.) Those before it were read to their ends, those behind it not at all.
-    #[error("source {0} failed")]
     Io(usize),
 }
 
@@ -58,18 +42,4 @@ pub enum InferenceFault {
     /// The sink failed. It has taken a prefix of the text.
     #[error("the text's sink failed")]
     Unwritten,
-}
-
-/// Why a certificate of a document was not converted.
-#[derive(Debug, Drop, Error)]
-pub enum ConversionFault {
-    /// The document was not read.
-    #[error(transparent)]
-    Document(DocumentFault),
-    /// The certificate's source failed.
-    #[error("the certificate's source failed")]
-    Unread,
-    /// It has no text in the format, or the sink failed; or memory was refused once the document was read.
-    #[error(transparent)]
-    Certificate(ConvertFault),
 }

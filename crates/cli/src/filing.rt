@@ -1,16 +1,17 @@
 //! A session that answers commands, over files into which it writes its texts.
 ghost use Rattle.certificate.specs.declared.format.Format.TheVariants.{Two};
 ghost use Rattle.cli.specs.Filing.{AreTextsFiled, IsFiledTold, IsFiling, IsInferenceFiled, IsInferring, IsServedAlone, IsToldAs, blamed_path, filed, filing_service, is_run, paths_of};
-ghost use Rattle.cli.specs.Messages.{cannot_write, summary_text};
-ghost use Rattle.session.specs.Devices.{seen};
-ghost use Rattle.session.specs.Progress.{IsProgress};
+ghost use Rattle.telling.specs.Messages.{cannot_write};
+ghost use Rattle.cli.specs.Messages.{summary_text};
+ghost use Rattle.telling.specs.Devices.{seen};
+ghost use Rattle.telling.specs.Progress.{IsProgress};
 ghost use Rattle.source_lines.specs.Sources.{source_state};
 ghost use Rattle.speech.specs.Answers.{session_service};
 ghost use Rattle.speech.specs.Conversations.{IsConversation};
 ghost use Rattle.speech.specs.Replies.{told, told_by};
 ghost use Rattle.std.specs.Prelude.{◌≡◌, ◌≤◌, ◌&&◌, length};
 
-use crate::printing::{print_summary, unwritten_message, written_path};
+use crate::printing::{print_summary, written_path};
 use crate::sinks::sinks_of;
 use crate::slicing::run_slices;
 use certificate::Format;
@@ -24,6 +25,7 @@ use speech::{
 };
 use std::alloc::Global;
 use system_files::Files;
+use telling::unwritten_message;
 
 /// Writes the texts of the session into the files at the paths, the certificate in the second format. Where there is no memory for
 /// all three, or facts are pending, nothing is written.

@@ -1,7 +1,7 @@
 //! What is inferred of a document, in a file.
-ghost use Rattle.cli.specs.Files.{store};
+ghost use Rattle.receiving.specs.Files.{store};
 ghost use Rattle.cli.specs.Inferring.{Infers, IsInferenceRead};
-ghost use Rattle.cli.specs.Messages.{outputs};
+ghost use Rattle.telling.specs.Printing.{outputs};
 ghost use Rattle.cli.specs.Runs.{IsInferMade, IsInferTold, Runs};
 ghost use Rattle.cli.specs.declared.fault.InferenceFault.TheVariants as faults;
 ghost use Rattle.profile.specs.declared.fault.DocumentFault.TheVariants as document_faults;
@@ -10,17 +10,18 @@ ghost use Rattle.source_lines.specs.Sources.{source_state};
 ghost use Rattle.std.specs.Prelude.{◌≡◌, ◌+◌, ◌<◌, IsErrOf};
 
 use crate::fault::InferenceFault;
-use crate::printing::{print_summary, tell, unwritten_message};
-use crate::sources::source_of;
+use crate::printing::print_summary;
 use classification::Summary;
 use command_line::Command;
 use device::{Sink, Source, write_all};
 use profile::{DocumentFault, Limits};
+use receiving::source_of;
 use session::{RunFault, as_question_fault, inference_of};
 use speech::question_message;
 use std::alloc::Global;
 use std::hash::RandomState;
 use system_files::Files;
+use telling::{tell, unwritten_message};
 
 /// Reads the document, and writes what is inferred of it, as a document: what `inference_of` gives. All is made in memory before anything
 /// is written. It gives the counts.

@@ -3,24 +3,20 @@
 
 ghost use Rattle.cli.specs.Filing.{FiledConversationsAreCalls, FiledConversationsAreOneDocument};
 ghost use Rattle.cli.specs.SpokenSessions.{SpokenSessionsAreAnswered};
-ghost use Rattle.cli.specs.Theorems.{AcceptedFilesAreRight, AcceptedTextsAreRight, EveryDocumentIsClassified, InferredAxiomsSayTheSame, ReadDocumentsAreNoStop, WhatIsRestricted, WhatIsWrittenIsAccepted, WrittenFilesAreAccepted};
-ghost use Rattle.cli.specs.WordsOfRuns.{WordsOfCheckCheck, WordsOfClassifyClassify, WordsOfInferInfer, WordsOfRestrictRestrict};
+ghost use Rattle.receiving.specs.Theorems.{AcceptedFilesAreRight, AcceptedTextsAreRight};
+ghost use Rattle.cli.specs.Theorems.{EveryDocumentIsClassified, InferredAxiomsSayTheSame, ReadDocumentsAreNoStop, WhatIsRestricted, WhatIsWrittenIsAccepted, WrittenFilesAreAccepted};
+ghost use Rattle.cli.specs.WordsOfRuns.{WordsOfCheckCheck, WordsOfClassifyClassify, VersionIsAWord, WordsOfInferInfer, WordsOfRestrictRestrict, WordsOfVersionTell};
 
 mod asking;
-mod checking;
 mod classifying;
-mod converting;
 mod fault;
 mod filing;
-mod formats;
 mod inferring;
 mod printing;
-mod reading;
 mod restricting;
 mod run;
 mod sinks;
 mod slicing;
-mod sources;
 mod speaking;
 mod starting;
 
@@ -28,19 +24,23 @@ pub use axioms::Ontology;
 pub use cert_check::{Reason, Verdict};
 pub use certificate::Format;
 pub use certificate_text::ConvertFault;
-pub use checking::{Checked, check_document};
 pub use classification::Summary;
 pub use classifying::classify_document;
-pub use command_line::{Command, Conversion, FormatNumber, LineFault, Paths, Task, task};
-pub use converting::convert_certificate;
-pub use fault::{CheckFault, ClassifyFault, ConversionFault, InferenceFault, RestrictionFault};
+pub use command_line::{
+    Command, Conversion, FormatNumber, Invocation, LineFault, Paths, Task, invocation,
+};
+pub use fault::{ClassifyFault, InferenceFault, RestrictionFault};
 pub use inferring::infer_document;
 pub use profile::{DocumentFault, Limits, Version, read_document};
+pub use receiving::{
+    CheckFault, Checked, ConversionFault, accepted_files_are_right, accepted_texts_are_right,
+    check_document, convert_certificate,
+};
 pub use restricting::restrict_document;
 pub use run::perform;
 pub use session::{
     Answer, Answers, AskFault, Asked, Explanation, Inferred, Interpretation, Line, QueryFault,
-    Question, QuestionFault, Related, RunFault, Session, Shown, Side, Stop, WritingFault,
+    Question, QuestionFault, Related, RunFault, Session, Shown, Side, Spelling, Stop, WritingFault,
     query_text, question_text,
 };
 pub use starting::start;
@@ -63,33 +63,22 @@ pub fn what_is_written_is_accepted()
     ensures read { ReadDocumentsAreNoStop }
 {}
 
-/// Where `check_document` accepts texts, whoever made them, the document reads as one ontology, whatever the version, and the
-/// taxonomy and the instances are those that its finite interpretations determine: each yes has a derivation from its axioms,
-/// each no is refuted by the listed interpretation of them, and no other texts are acceptable for the document.
-pub fn accepted_texts_are_right()
-    ensures { AcceptedTextsAreRight }
-{}
-
 /// Two runs of commands over files whose content is known: after one of `classify` that ends with status 0, one of `check` on the same
 /// four paths prints `accepted`, unless it is stopped so.
 pub fn written_files_are_accepted()
     ensures { WrittenFilesAreAccepted }
 {}
 
-/// A run of `check` over files whose content is known that ends with status 0 shows that the texts in them are right, whoever made
-/// them: the document reads as one ontology, whatever the version, the taxonomy and the instances say what follows from its axioms, as
-/// the certificate shows, and no other texts are acceptable for it.
-pub fn accepted_files_are_right()
-    ensures { AcceptedFilesAreRight }
-{}
-
 /// A run of `perform` whose words ask for a check, for a classification, for a restriction or for what is inferred is a run of that command
-/// on the same paths, within the limits of the words and behind its progress, unless memory is refused for reading the words.
+/// on the same paths, within the limits of the words and behind its progress, and one whose words ask for the version prints it and writes no
+/// file, unless memory is refused for reading the words.
 pub fn words_ask_for_one_run()
     ensures check { WordsOfCheckCheck }
     ensures classify { WordsOfClassifyClassify }
     ensures restrict { WordsOfRestrictRestrict }
     ensures infer { WordsOfInferInfer }
+    ensures version { WordsOfVersionTell }
+    ensures version_word { VersionIsAWord }
 {}
 
 /// A run of `restrict` over files whose content is known that ends with status 0: its first file held the text of a document, its second

@@ -1,27 +1,26 @@
 //! What of a document is of the profile, in a file.
-ghost use Rattle.cli.specs.Checks.{AreKnown};
-ghost use Rattle.cli.specs.Files.{store};
-ghost use Rattle.cli.specs.Messages.{outputs};
+ghost use Rattle.receiving.specs.Checks.{AreKnown};
+ghost use Rattle.receiving.specs.Files.{store};
+ghost use Rattle.telling.specs.Printing.{outputs};
 ghost use Rattle.cli.specs.Restrictions.{IsRestrictionRead, IsUnrestricted, Restricts};
 ghost use Rattle.cli.specs.Runs.{IsRestrictTold, IsRestrictionMade, Runs};
 ghost use Rattle.cli.specs.declared.fault.RestrictionFault.TheVariants as faults;
 ghost use Rattle.profile.specs.declared.fault.DocumentFault.TheVariants as document_faults;
-ghost use Rattle.session.specs.Devices.{IsReadIn};
+ghost use Rattle.telling.specs.Devices.{IsReadIn};
 ghost use Rattle.source_lines.specs.Sources.{source_state};
 ghost use Rattle.std.specs.Prelude.{◌≡◌, ◌+◌, ◌<◌, ◌≤◌, IfErr, IfOk, IsErrOf, length};
 
 use crate::fault::RestrictionFault;
-use crate::printing::{print, tell, unwritten_message};
-use crate::sources::source_of;
 use command_line::Command;
 use device::{ReadFault, Sink, Source, read_all, write_all};
 use profile::{DocumentFault, Limits};
 use program::Status;
-use speech::document_message;
+use receiving::source_of;
 use statements_text::{Restriction, restricted};
 use std::alloc::Global;
 use std::hash::RandomState;
 use system_files::Files;
+use telling::{document_message, print, tell, unwritten_message};
 
 /// All the bytes of the document, which are at most as many as its limit.
 fn document_bytes<D: Source>(

@@ -1,8 +1,8 @@
 //! Runs of a session in slices of facts.
 ghost use Rattle.cli.specs.Filing.{IsBegunIn};
-ghost use Rattle.session.specs.Devices.{seen};
+ghost use Rattle.telling.specs.Devices.{seen};
 ghost use Rattle.session.specs.Edits.{Reply, IsCall, Resume};
-ghost use Rattle.session.specs.Progress.{IsProgress};
+ghost use Rattle.telling.specs.Progress.{IsProgress};
 ghost use Rattle.session.specs.Sessions.{IsSession, KeepsText};
 ghost use Rattle.std.specs.Prelude.{◌≡◌};
 

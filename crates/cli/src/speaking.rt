@@ -1,21 +1,21 @@
 //! A run that keeps a document, and answers commands.
-ghost use Rattle.cli.specs.Files.{BlamesFile};
+ghost use Rattle.receiving.specs.Files.{BlamesFile};
 ghost use Rattle.cli.specs.Runs.{RunsTelling};
 ghost use Rattle.profile.specs.Faults.{OpensKnown, RefusesKnown};
 ghost use Rattle.session.specs.Sessions.{as_read};
 ghost use Rattle.std.specs.Prelude.{◌≡◌, [], IfErr, IfOk};
 
 use crate::filing::{FileService, converse_over_files};
-use crate::printing::{tell, tell_out_of_memory};
-use crate::sources::source_of;
 use command_line::Command;
 use device::Sink;
 use profile::{DocumentFault, Limits};
+use receiving::source_of;
 use session::{Session, tell_opened};
-use speech::{SessionService, document_message};
+use speech::SessionService;
 use std::alloc::Global;
 use std::hash::RandomState;
 use system_files::Files;
+use telling::{document_message, tell, tell_out_of_memory};
 
 /// The file that commands are read from.
 pub const INPUT: &str = "/dev/stdin";

@@ -1,39 +1,18 @@
 //! A run of the program as it is started.
-ghost use Rattle.session.specs.Devices.{seen};
-ghost use Rattle.cli.specs.Starts.{IsStarted, IsUnreadTold, StartsSeeded};
-ghost use Rattle.std.specs.IoError.{error_kind};
-ghost use Rattle.std.specs.Prelude.{◌≡◌, IfOk, map, string_bytes};
+ghost use Rattle.cli.specs.Runs.{Performs};
+ghost use Rattle.receiving.specs.Starts.{IsStarted, StartsSeeded};
 ghost use Rattle.std.specs.Process.{exit_status};
 
-use crate::printing::{print, tell_out_of_memory};
 use crate::run::perform;
 use device::Sink;
 use program::Status;
-use std::alloc::{AllocError, Global};
+use receiving::{slices, tell_unread};
+use std::alloc::Global;
 use std::hash::RandomState;
 use std::io;
 use std::process::ExitCode;
 use system_files::Files;
-
-fn slices<'a>(alloc: Global, words: &'a [String]) -> Result<Vec<&'a str>, AllocError>
-    ensures { IfOk result (λ s. map (λ w. w.now) s.items ≡ map string_bytes words.now) }
-{
-    let mut slices = Vec::new(alloc);
-    for word in words {
-        slices.push(word.as_str())?;
-    }
-    Ok(slices)
-}
-
-/// Tells why there are no words: memory was refused, or they are no text.
-fn tell_unread<E: Sink>(fault: &io::Error, err: &mut E) -> u8
-    ensures { IsUnreadTold (error_kind fault.now) (seen E.Sink err.old) (seen E.Sink err.new) result }
-{
-    match fault.kind() {
-        io::ErrorKind::OutOfMemory => tell_out_of_memory(err),
-        _ => print(err, "the command line is no text\n", Status::Usage),
-    }
-}
+use telling::{print, tell_out_of_memory};
 
 /// Performs what the words ask for; where there are none, that is told, and nothing else is done.
 fn perform_words<F: Files, O: Sink, E: Sink>(
@@ -44,7 +23,7 @@ fn perform_words<F: Files, O: Sink, E: Sink>(
     out: &mut O,
     err: &mut E,
 ) -> u8
-    ensures { IsStarted F.Files O.Sink E.Sink words (files.old, out.old, err.old) (files.new, out.new, err.new) result }
+    ensures { IsStarted E.Sink (Performs F.Files O.Sink E.Sink) words (files.old, out.old, err.old) (files.new, out.new, err.new) result }
 {
     let words = match words {
         Ok(words) => words,
@@ -66,7 +45,7 @@ pub fn start<F: Files, O: Sink, E: Sink>(
     out: &mut O,
     err: &mut E,
 ) -> ExitCode
-    ensures { StartsSeeded F.Files O.Sink E.Sink state words (files.old, out.old, err.old) (files.new, out.new, err.new) (exit_status result) }
+    ensures { StartsSeeded E.Sink (Performs F.Files O.Sink E.Sink) state words (files.old, out.old, err.old) (files.new, out.new, err.new) (exit_status result) }
 {
     match state {
         Ok(state) => ExitCode::from(perform_words(alloc, words, state, files, out, err)),

@@ -1,12 +1,19 @@
 -- The program's command line, as clap reads it.
-use Rattle.std.specs.Prelude.{◌≡◌, ◌≤◌, ◌<◌, ◌^◌, ℕ, Bool, List, [], ◌∷◌, Option, Some, None, codes, if◌then◌else◌, true, false, ⊤}
+use Rattle.std.specs.Prelude.{◌≡◌, ◌≤◌, ◌<◌, ◌^◌, ℕ, Bool, List, [], ◌∷◌, Option, Some, None, Result, Ok, Err, codes, if◌then◌else◌, true, false, ⊤}
 use Rattle.std.specs.Fmt.{decimal}
 use Rattle.std.specs.Str.Parse.{IsNumeral, digits_value, without_leading_plus}
 use Rattle.clap.specs.Words.{App, Row, Rule, Text, new_app, new_rule, with_rule, with_subcommand, first_of, one_of, subcommand_of, takes}
+use Rattle.clap.specs.Faults.{fault_of}
+use Rattle.clap.specs.Kinds.{IsAmong}
+use Rattle.clap.specs.Values.{kind_of}
 use Rattle.clap.specs.Simple.{on_top}
 use Rattle.clap.specs.declared.builder.action.ArgAction.TheVariants.{SetTrue}
 use Rattle.clap.specs.declared.builder.value_parser.ValueParser.TheVariants as vp
+use Rattle.clap.specs.declared.error.kind.ErrorKind.TheVariants.{DisplayVersion, OutOfMemory}
+use Rattle.clap.specs.declared.error.Error.{Error}
 use Rattle.command_line.specs.declared.tasks.Conversion.{Conversion}
+use Rattle.command_line.specs.declared.tasks.Invocation.{Invocation}
+use Rattle.command_line.specs.declared.tasks.Invocation.TheVariants as invocations
 use Rattle.command_line.specs.declared.tasks.FormatNumber.{FormatNumber}
 use Rattle.command_line.specs.declared.tasks.FormatNumber.TheVariants as formats
 use Rattle.command_line.specs.declared.tasks.Paths.{Paths}
@@ -14,10 +21,12 @@ use Rattle.program.specs.Questions.{related_word, side_word}
 use Rattle.program.specs.declared.question.Asked.{Asked}
 use Rattle.program.specs.declared.question.Asked.TheVariants.{Class, Individual}
 use Rattle.program.specs.declared.question.Question.{Question}
-use Rattle.program.specs.declared.question.Question.TheVariants.{Names, Groups, Why}
+use Rattle.program.specs.declared.question.Question.TheVariants.{Names, Groups, Why, Unsatisfiable, Types, DirectTypes, Lacks}
 use Rattle.program.specs.declared.question.Related.TheVariants.{Superclasses, Subclasses, Equivalents, Instances}
 use Rattle.program.specs.declared.question.Shown.{Shown}
 use Rattle.program.specs.declared.question.Side.TheVariants.{Above, Below}
+use Rattle.program.specs.declared.question.Spelling.{Spelling}
+use Rattle.program.specs.declared.question.Spelling.TheVariants.{Full, Short}
 use Rattle.command_line.specs.declared.tasks.LineFault.{LineFault}
 use Rattle.command_line.specs.declared.tasks.LineFault.TheVariants.{Line, Memory}
 use Rattle.command_line.specs.declared.tasks.Command.{Command}
@@ -133,9 +142,13 @@ with_certificates app = with_subcommand (with_subcommand (with_subcommand app cl
 abbrev pub with_documents : App → App
 with_documents app = with_subcommand (with_subcommand app restrict_app.top) infer_app.top
 
--- `WORD DOC CLASS [--max-facts N] [--max-bytes N] [--profile N]`
+-- `[--short] [--max-facts N] [--max-bytes N] [--profile N]`
+abbrev pub with_answer : App → App
+with_answer app = with_limits (with_rule app (flag (codes "short")))
+
+-- `WORD DOC CLASS [--short] [--max-facts N] [--max-bytes N] [--profile N]`
 abbrev pub class_app : (word : Text) → App
-class_app word = with_limits (with_rule (with_rule (new_app word) (path (codes "DOC"))) (path (codes "CLASS")))
+class_app word = with_answer (with_rule (with_rule (new_app word) (path (codes "DOC"))) (path (codes "CLASS")))
 
 -- the commands that ask for names that are related to a class
 abbrev pub with_related : App → App
@@ -147,21 +160,42 @@ with_related app =
 abbrev pub with_sides : App → App
 with_sides app = with_subcommand (with_subcommand app (class_app (side_word Above)).top) (class_app (side_word Below)).top
 
--- `DOC SUB SUPER`
+-- `types DOC INDIVIDUAL [--direct] [--short] [--max-facts N] [--max-bytes N] [--profile N]`
+abbrev pub types_app : App
+types_app = with_answer (with_rule (with_rule (with_rule (new_app (codes "types")) (path (codes "DOC"))) (path (codes "INDIVIDUAL"))) (flag (codes "direct")))
+
+-- `unsatisfiable DOC [--short] [--max-facts N] [--max-bytes N] [--profile N]`
+abbrev pub unsatisfiable_app : App
+unsatisfiable_app = with_answer (with_rule (new_app (codes "unsatisfiable")) (path (codes "DOC")))
+
+-- and those that ask for classes otherwise
+abbrev pub with_classes : App → App
+with_classes app = with_subcommand (with_subcommand app types_app.top) unsatisfiable_app.top
+
+-- `DOC SUB SUPER [--individual]`
 abbrev pub with_names : App → App
-with_names app = with_rule (with_rule (with_rule app (path (codes "DOC"))) (path (codes "SUB"))) (path (codes "SUPER"))
+with_names app =
+    with_rule (with_rule (with_rule (with_rule app (path (codes "DOC"))) (path (codes "SUB"))) (path (codes "SUPER"))) (flag (codes "individual"))
 
--- `[--individual] [--dot] [--reached]`
+-- `[--dot] [--reached] [--axioms]`
 abbrev pub with_flags : App → App
-with_flags app = with_rule (with_rule (with_rule app (flag (codes "individual"))) (flag (codes "dot"))) (flag (codes "reached"))
+with_flags app = with_rule (with_rule (with_rule app (flag (codes "dot"))) (flag (codes "reached"))) (flag (codes "axioms"))
 
--- `explain DOC SUB SUPER [--individual] [--dot] [--reached] [--max-facts N] [--max-bytes N] [--profile N]`
+-- `explain DOC SUB SUPER [--individual] [--dot] [--reached] [--axioms] [--short] [--max-facts N] [--max-bytes N] [--profile N]`
 abbrev pub explain_app : App
-explain_app = with_limits (with_flags (with_names (new_app (codes "explain"))))
+explain_app = with_answer (with_flags (with_names (new_app (codes "explain"))))
 
--- `query DOC EXPRESSION [--max-facts N] [--max-bytes N] [--profile N]`
+-- `lacks DOC SUB SUPER [--individual] [--short] [--max-facts N] [--max-bytes N] [--profile N]`
+abbrev pub lacks_app : App
+lacks_app = with_answer (with_names (new_app (codes "lacks")))
+
+-- the commands that ask of two names why, or why not
+abbrev pub with_reasons : App → App
+with_reasons app = with_subcommand (with_subcommand app explain_app.top) lacks_app.top
+
+-- `query DOC EXPRESSION [--short] [--max-facts N] [--max-bytes N] [--profile N]`
 abbrev pub query_app : App
-query_app = with_limits (with_rule (with_rule (new_app (codes "query")) (path (codes "DOC"))) (path (codes "EXPRESSION")))
+query_app = with_answer (with_rule (with_rule (new_app (codes "query")) (path (codes "DOC"))) (path (codes "EXPRESSION")))
 
 -- `session DOC [--progress] [--max-facts N] [--max-bytes N] [--profile N]`
 abbrev pub session_app : App
@@ -169,12 +203,15 @@ session_app = with_limits (with_progress (with_rule (new_app (codes "session")) 
 
 -- the commands that ask about a document
 abbrev pub with_questions : App → App
-with_questions app = with_subcommand (with_subcommand (with_sides (with_related app)) explain_app.top) query_app.top
+with_questions app = with_subcommand (with_reasons (with_classes (with_sides (with_related app)))) query_app.top
 
--- the program, whose first word after its name is one of the commands
+-- the program without its commands, which tells its version
+abbrev pub bare_app : App
+bare_app = on_top (λ s. record s { has_version = true; subcommand_required = true }) (new_app (codes "elc"))
+
+-- the program, whose first word after its name is one of the commands, or asks for help or the version
 abbrev pub elc_app : App
-elc_app =
-    with_subcommand (with_questions (with_documents (with_certificates (on_top (λ s. record s { subcommand_required = true }) (new_app (codes "elc")))))) session_app.top
+elc_app = with_subcommand (with_questions (with_documents (with_certificates bare_app))) session_app.top
 
 -- ---- what the words ask for
 
@@ -223,12 +260,26 @@ IsAsked rows (Individual a) = (first_of (codes "SUB") rows ≡ Some a.now) × Is
 pub record IsShownBy (rows : List Row) (shown : Shown) : Type 0 where
   pub graph : IsFlag (codes "dot") rows shown.graph
   pub reached : IsFlag (codes "reached") rows shown.reached
+  pub axioms : IsFlag (codes "axioms") rows shown.axioms
+
+-- whether names are spelled short
+abbrev pub is_short : Spelling → Bool
+is_short Full = false
+is_short Short = true
+
+-- names are spelled short where the flag stands, and else in full
+abbrev pub IsSpelled : List Row → Spelling → Type 0
+IsSpelled rows spelling = IsFlag (codes "short") rows (is_short spelling)
 
 -- the question is what the command's name, the words in their places and the flags say
 abbrev pub IsQuestion : Text → List Row → Question → Type 0
 IsQuestion name rows (Names related class) = (name ≡ related_word related) × (first_of (codes "CLASS") rows ≡ Some class.now)
 IsQuestion name rows (Groups side class) = (name ≡ side_word side) × (first_of (codes "CLASS") rows ≡ Some class.now)
 IsQuestion name rows (Why asked class shown) = (name ≡ codes "explain") × IsAsked rows asked × (first_of (codes "SUPER") rows ≡ Some class.now) × IsShownBy rows shown
+IsQuestion name rows Unsatisfiable = name ≡ codes "unsatisfiable"
+IsQuestion name rows (Types individual) = (name ≡ codes "types") × (first_of (codes "INDIVIDUAL") rows ≡ Some individual.now) × IsFlag (codes "direct") rows false
+IsQuestion name rows (DirectTypes individual) = (name ≡ codes "types") × (first_of (codes "INDIVIDUAL") rows ≡ Some individual.now) × IsFlag (codes "direct") rows true
+IsQuestion name rows (Lacks asked class) = (name ≡ codes "lacks") × IsAsked rows asked × (first_of (codes "SUPER") rows ≡ Some class.now)
 
 -- the command is what its name and its matches say
 abbrev pub IsCommand : Text → List Row → Command → Type 0
@@ -237,8 +288,9 @@ IsCommand name rows (Check paths) = (name ≡ codes "check") × ArePaths rows pa
 IsCommand name rows (Convert conversion) = (name ≡ codes "convert") × IsConversion rows conversion
 IsCommand name rows (Restrict document output) = (name ≡ codes "restrict") × (first_of (codes "DOC") rows ≡ Some document.now) × (first_of (codes "OUT") rows ≡ Some output.now)
 IsCommand name rows (Infer document output) = (name ≡ codes "infer") × (first_of (codes "DOC") rows ≡ Some document.now) × (first_of (codes "OUT") rows ≡ Some output.now)
-IsCommand name rows (Ask document question) = (first_of (codes "DOC") rows ≡ Some document.now) × IsQuestion name rows question
-IsCommand name rows (Query document expression) = (name ≡ codes "query") × (first_of (codes "DOC") rows ≡ Some document.now) × (first_of (codes "EXPRESSION") rows ≡ Some expression.now)
+IsCommand name rows (Ask document question spelling) = (first_of (codes "DOC") rows ≡ Some document.now) × IsQuestion name rows question × IsSpelled rows spelling
+IsCommand name rows (Query document expression spelling) =
+    (name ≡ codes "query") × (first_of (codes "DOC") rows ≡ Some document.now) × (first_of (codes "EXPRESSION") rows ≡ Some expression.now) × IsSpelled rows spelling
 IsCommand name rows (Session document) = (name ≡ codes "session") × (first_of (codes "DOC") rows ≡ Some document.now)
 
 -- a check, a conversion and a restriction draw no facts
@@ -297,7 +349,23 @@ abbrev pub Finds : {X : Type 0} → (X → Type 0) → Option X → Type 0
 Finds {X} P None = (x : X) → P x → ⊥
 Finds P (Some x) = P x
 
--- a line is refused only where clap's function does not take the words, or gives no task for them
+-- the words ask for the version: this alone is what clap's function of the faults gives for them
+abbrev pub AskForVersion : List Text → Type 0
+AskForVersion words = fault_of elc_app words ≡ DisplayVersion ∷ []
+
+-- the words give the task, and do not ask for the version, which is told only where they ask for it and are not taken
+abbrev pub Gives : List Text → Invocation → Type 0
+Gives words (invocations.Task task) = IsTaskOf words task × ¬ AskForVersion words
+Gives words invocations.Version = ¬ (takes elc_app words ≡ true) × IsAmong DisplayVersion (fault_of elc_app words)
+
+-- a line is refused only where clap's function does not take the words, or gives no task for them, and where they do not ask for the version
 abbrev pub Refuses : List Text → LineFault → Type 0
-Refuses words (Line error) = takes elc_app words ≡ true → (task : Task) → IsTaskOf words task → ⊥
+Refuses words (Line error) = (takes elc_app words ≡ true → (task : Task) → IsTaskOf words task → ⊥) × ¬ AskForVersion words
 Refuses words Memory = ⊤
+
+-- what clap's error says of words: that they ask for the version, that there is no memory, or what the error tells
+abbrev pub IsToldBy : Error → Result Invocation LineFault → Type 0
+IsToldBy error (Ok (invocations.Task task)) = ⊥
+IsToldBy error (Ok invocations.Version) = kind_of error ≡ DisplayVersion
+IsToldBy error (Err (Line told)) = ¬ (kind_of error ≡ OutOfMemory) × ¬ (kind_of error ≡ DisplayVersion)
+IsToldBy error (Err Memory) = kind_of error ≡ OutOfMemory

@@ -3,10 +3,10 @@ ghost use Rattle.std.specs.Fmt.{decimal};
 ghost use Rattle.std.specs.Prelude.{◌≡◌, ◌||◌, IfOk, IsOkAnd, false};
 ghost use Rattle.clap.specs.Words.{app_of, rule_of, with_rule, with_subcommand as app_with_subcommand};
 ghost use Rattle.clap.specs.declared.builder.command.Command.TheViews.{out-Command as fields_of};
-ghost use Rattle.command_line.specs.CommandLine.{number, path, flag, max_facts, max_bytes, format, with_reading as app_with_reading, with_paths as app_with_paths, with_names as app_with_names, with_flags as app_with_flags, with_progress as app_with_progress, with_limits as app_with_limits, with_conversion as app_with_conversion, with_certificates as app_with_certificates, with_documents as app_with_documents, with_questions as app_with_questions, with_related as app_with_related, with_sides as app_with_sides, check_app, class_app, classify_app, convert_app, explain_app, infer_app, query_app, restrict_app, session_app, elc_app};
+ghost use Rattle.command_line.specs.CommandLine.{number, path, flag, max_facts, max_bytes, format, with_reading as app_with_reading, with_paths as app_with_paths, with_answer as app_with_answer, with_names as app_with_names, with_flags as app_with_flags, with_progress as app_with_progress, with_limits as app_with_limits, with_conversion as app_with_conversion, with_certificates as app_with_certificates, with_documents as app_with_documents, with_questions as app_with_questions, with_related as app_with_related, with_sides as app_with_sides, with_classes as app_with_classes, with_reasons as app_with_reasons, bare_app, check_app, class_app, classify_app, convert_app, explain_app, infer_app, lacks_app, query_app, restrict_app, session_app, types_app, unsatisfiable_app, elc_app};
 
 use clap::{Arg, ArgAction, Command, value_parser};
-use program::{MOST_BYTES, MOST_BYTES_TEXT, MOST_FACTS, MOST_FACTS_TEXT};
+use program::{MOST_BYTES, MOST_BYTES_TEXT, MOST_FACTS, MOST_FACTS_TEXT, VERSION};
 use std::alloc::{AllocError, Global};
 
 const ABOUT: &str = "Classifies ontologies in OWL 2 EL, and says why";
@@ -19,8 +19,11 @@ const EXAMPLES: &str = "Examples:
   elc infer food.ofn inferred.ofn
   elc instances food.ofn http://example.org/Pizza
   elc parents food.ofn http://example.org/Pizza
-  elc explain food.ofn http://example.org/Pizza http://example.org/Food
+  elc types food.ofn http://example.org/margherita --direct
+  elc unsatisfiable food.ofn
+  elc explain food.ofn http://example.org/Pizza http://example.org/Food --axioms --short
   elc explain food.ofn http://example.org/margherita http://example.org/Pizza --individual
+  elc lacks food.ofn http://example.org/Pizza http://example.org/NutDish
   elc query food.ofn 'ObjectSomeValuesFrom(:contains :Nut)'
   elc session food.ofn
 Names are written in full, without < and >; in an expression as in the document.";
@@ -48,8 +51,16 @@ const PARENTS_ABOUT: &str = "Prints the classes directly above a class, equal on
 
 const CHILDREN_ABOUT: &str = "Prints the classes directly below a class, equal ones on one line";
 
+const TYPES_ABOUT: &str = "Prints the classes that an individual belongs to";
+
+const UNSATISFIABLE_ABOUT: &str =
+    "Prints the classes that can have no instance, and ends with status 1 where there is one";
+
 const EXPLAIN_ABOUT: &str =
     "Prints whether a class is below another, or an individual is in it, with the proof or a counterexample";
+
+const LACKS_ABOUT: &str =
+    "Prints which of the conditions for a class another, or an individual, has and which it lacks";
 
 const QUERY_ABOUT: &str =
     "Prints the classes above and below a class expression, and its individuals";
@@ -74,9 +85,12 @@ const CLASS_HELP: &str = "The class, by its name in full, as http://example.org/
 const EXPRESSION_HELP: &str =
     "The class expression, in functional-style syntax, with the prefixes of the document, as 'ObjectSomeValuesFrom(:contains :Nut)'";
 
-const SUBJECT_HELP: &str = "The class below, or the individual, by its name in full";
+const MEMBER_HELP: &str = "The individual, by its name in full";
 
-const SUPER_HELP: &str = "The class above, by its name in full";
+const SUBJECT_HELP: &str = "The class, or the individual, that is asked about, by its name in full";
+
+const SUPER_HELP: &str =
+    "The class of which it is asked whether that is in it, by its name in full";
 
 const INDIVIDUAL_HELP: &str = "SUB is an individual";
 
@@ -84,6 +98,13 @@ const DOT_HELP: &str = "Prints a graph for the program dot";
 
 const REACHED_HELP: &str =
     "Prints of a counterexample what pairs lead to from its element, and how many others there are";
+
+const AXIOMS_HELP: &str = "Prints behind a proof the axioms that it cites";
+
+const DIRECT_HELP: &str = "Prints the lowest of these classes alone, equal ones on one line";
+
+const SHORT_HELP: &str =
+    "Prints names with the prefixes of the document, and in full where none fits";
 
 const MAX_FACTS_HELP: &str = "The most facts to draw from the document, from 1 up to the default";
 
@@ -183,6 +204,24 @@ fn with_limits<'a>(alloc: Global, command: Command<'a>) -> Result<Command<'a>, A
     with_reading(alloc, command.arg(max_facts_option(alloc))?)
 }
 
+/// The command with one flag more.
+fn with_flag<'a>(
+    alloc: Global,
+    command: Command<'a>,
+    id: &'a str,
+    help: &'a str,
+) -> Result<Command<'a>, AllocError>
+    ensures app { IfOk result (λ c. app_of c ≡ with_rule (app_of command.entry) (flag id.entry.now)) }
+    ensures local { (fields_of command.entry).has_globals ≡ false → IfOk result (λ c. (fields_of c).has_globals ≡ false) }
+{
+    command.arg(
+        Arg::new(alloc, id)
+            .long(id)
+            .action(ArgAction::SetTrue)
+            .help(help),
+    )
+}
+
 /// The command with the flag that asks for progress.
 fn with_progress<'a>(alloc: Global, command: Command<'a>) -> Result<Command<'a>, AllocError>
     ensures app { IfOk result (λ c. app_of c ≡ app_with_progress (app_of command.entry)) }
@@ -210,7 +249,7 @@ fn classify_command<'a>(alloc: Global) -> Result<Command<'a>, AllocError>
     with_limits(alloc, command)
 }
 
-fn check_command<'a>(alloc: Global) -> Result<Command<'a>, AllocError>
+pub(crate) fn check_command<'a>(alloc: Global) -> Result<Command<'a>, AllocError>
     ensures app { IfOk result (λ c. app_of c ≡ check_app) }
     ensures local { IfOk result (λ c. (fields_of c).has_globals ≡ false) }
 {
@@ -231,7 +270,7 @@ fn with_conversion<'a>(alloc: Global, command: Command<'a>) -> Result<Command<'a
     with_format(alloc, command)
 }
 
-fn convert_command<'a>(alloc: Global) -> Result<Command<'a>, AllocError>
+pub(crate) fn convert_command<'a>(alloc: Global) -> Result<Command<'a>, AllocError>
     ensures app { IfOk result (λ c. app_of c ≡ convert_app) }
     ensures local { IfOk result (λ c. (fields_of c).has_globals ≡ false) }
 {
@@ -279,6 +318,15 @@ fn with_documents<'a>(alloc: Global, command: Command<'a>) -> Result<Command<'a>
     with_subcommand(command, infer_command(alloc))
 }
 
+/// The command with what all have that answer a question.
+fn with_answer<'a>(alloc: Global, command: Command<'a>) -> Result<Command<'a>, AllocError>
+    ensures app { IfOk result (λ c. app_of c ≡ app_with_answer (app_of command.entry)) }
+    ensures local { (fields_of command.entry).has_globals ≡ false → IfOk result (λ c. (fields_of c).has_globals ≡ false) }
+{
+    let command = with_flag(alloc, command, "short", SHORT_HELP)?;
+    with_limits(alloc, command)
+}
+
 /// The command of that word, which asks about a class.
 fn class_command<'a>(
     alloc: Global,
@@ -291,7 +339,7 @@ fn class_command<'a>(
     let command = Command::new(alloc, word).about(about);
     let command = with_path(alloc, command, "DOC", DOCUMENT_HELP)?;
     let command = with_path(alloc, command, "CLASS", CLASS_HELP)?;
-    with_limits(alloc, command)
+    with_answer(alloc, command)
 }
 
 /// The command with those that ask for names that are related to a class.
@@ -317,42 +365,54 @@ fn with_sides<'a>(alloc: Global, command: Command<'a>) -> Result<Command<'a>, Al
     with_subcommand(command, class_command(alloc, "children", CHILDREN_ABOUT))
 }
 
-/// The command with the document and the two names that a question is of.
+fn types_command<'a>(alloc: Global) -> Result<Command<'a>, AllocError>
+    ensures app { IfOk result (λ c. app_of c ≡ types_app) }
+    ensures local { IfOk result (λ c. (fields_of c).has_globals ≡ false) }
+{
+    let command = Command::new(alloc, "types").about(TYPES_ABOUT);
+    let command = with_path(alloc, command, "DOC", DOCUMENT_HELP)?;
+    let command = with_path(alloc, command, "INDIVIDUAL", MEMBER_HELP)?;
+    let command = with_flag(alloc, command, "direct", DIRECT_HELP)?;
+    with_answer(alloc, command)
+}
+
+fn unsatisfiable_command<'a>(alloc: Global) -> Result<Command<'a>, AllocError>
+    ensures app { IfOk result (λ c. app_of c ≡ unsatisfiable_app) }
+    ensures local { IfOk result (λ c. (fields_of c).has_globals ≡ false) }
+{
+    let command = Command::new(alloc, "unsatisfiable").about(UNSATISFIABLE_ABOUT);
+    let command = with_path(alloc, command, "DOC", DOCUMENT_HELP)?;
+    with_answer(alloc, command)
+}
+
+/// The command with those that ask for classes otherwise.
+fn with_classes<'a>(alloc: Global, command: Command<'a>) -> Result<Command<'a>, AllocError>
+    ensures app { IfOk result (λ c. app_of c ≡ app_with_classes (app_of command.entry)) }
+    ensures local { (fields_of command.entry).has_globals ≡ false → IfOk result (λ c. (fields_of c).has_globals ≡ false) }
+{
+    let command = with_subcommand(command, types_command(alloc))?;
+    with_subcommand(command, unsatisfiable_command(alloc))
+}
+
+/// The command with the document, the two names that a question is of, and what the first is.
 fn with_names<'a>(alloc: Global, command: Command<'a>) -> Result<Command<'a>, AllocError>
     ensures app { IfOk result (λ c. app_of c ≡ app_with_names (app_of command.entry)) }
     ensures local { (fields_of command.entry).has_globals ≡ false → IfOk result (λ c. (fields_of c).has_globals ≡ false) }
 {
     let command = with_path(alloc, command, "DOC", DOCUMENT_HELP)?;
     let command = with_path(alloc, command, "SUB", SUBJECT_HELP)?;
-    with_path(alloc, command, "SUPER", SUPER_HELP)
+    let command = with_path(alloc, command, "SUPER", SUPER_HELP)?;
+    with_flag(alloc, command, "individual", INDIVIDUAL_HELP)
 }
 
-/// The command with one flag more.
-fn with_flag<'a>(
-    alloc: Global,
-    command: Command<'a>,
-    id: &'a str,
-    help: &'a str,
-) -> Result<Command<'a>, AllocError>
-    ensures app { IfOk result (λ c. app_of c ≡ with_rule (app_of command.entry) (flag id.entry.now)) }
-    ensures local { (fields_of command.entry).has_globals ≡ false → IfOk result (λ c. (fields_of c).has_globals ≡ false) }
-{
-    command.arg(
-        Arg::new(alloc, id)
-            .long(id)
-            .action(ArgAction::SetTrue)
-            .help(help),
-    )
-}
-
-/// The command with the flags of a question.
+/// The command with the flags that say how an explanation is shown.
 fn with_flags<'a>(alloc: Global, command: Command<'a>) -> Result<Command<'a>, AllocError>
     ensures app { IfOk result (λ c. app_of c ≡ app_with_flags (app_of command.entry)) }
     ensures local { (fields_of command.entry).has_globals ≡ false → IfOk result (λ c. (fields_of c).has_globals ≡ false) }
 {
-    let command = with_flag(alloc, command, "individual", INDIVIDUAL_HELP)?;
     let command = with_flag(alloc, command, "dot", DOT_HELP)?;
-    with_flag(alloc, command, "reached", REACHED_HELP)
+    let command = with_flag(alloc, command, "reached", REACHED_HELP)?;
+    with_flag(alloc, command, "axioms", AXIOMS_HELP)
 }
 
 fn explain_command<'a>(alloc: Global) -> Result<Command<'a>, AllocError>
@@ -362,7 +422,25 @@ fn explain_command<'a>(alloc: Global) -> Result<Command<'a>, AllocError>
     let command = Command::new(alloc, "explain").about(EXPLAIN_ABOUT);
     let command = with_names(alloc, command)?;
     let command = with_flags(alloc, command)?;
-    with_limits(alloc, command)
+    with_answer(alloc, command)
+}
+
+fn lacks_command<'a>(alloc: Global) -> Result<Command<'a>, AllocError>
+    ensures app { IfOk result (λ c. app_of c ≡ lacks_app) }
+    ensures local { IfOk result (λ c. (fields_of c).has_globals ≡ false) }
+{
+    let command = Command::new(alloc, "lacks").about(LACKS_ABOUT);
+    let command = with_names(alloc, command)?;
+    with_answer(alloc, command)
+}
+
+/// The command with those that ask of two names why, or why not.
+fn with_reasons<'a>(alloc: Global, command: Command<'a>) -> Result<Command<'a>, AllocError>
+    ensures app { IfOk result (λ c. app_of c ≡ app_with_reasons (app_of command.entry)) }
+    ensures local { (fields_of command.entry).has_globals ≡ false → IfOk result (λ c. (fields_of c).has_globals ≡ false) }
+{
+    let command = with_subcommand(command, explain_command(alloc))?;
+    with_subcommand(command, lacks_command(alloc))
 }
 
 fn query_command<'a>(alloc: Global) -> Result<Command<'a>, AllocError>
@@ -372,7 +450,7 @@ fn query_command<'a>(alloc: Global) -> Result<Command<'a>, AllocError>
     let command = Command::new(alloc, "query").about(QUERY_ABOUT);
     let command = with_path(alloc, command, "DOC", DOCUMENT_HELP)?;
     let command = with_path(alloc, command, "EXPRESSION", EXPRESSION_HELP)?;
-    with_limits(alloc, command)
+    with_answer(alloc, command)
 }
 
 fn session_command<'a>(alloc: Global) -> Result<Command<'a>, AllocError>
@@ -392,8 +470,21 @@ fn with_questions<'a>(alloc: Global, command: Command<'a>) -> Result<Command<'a>
 {
     let command = with_related(alloc, command)?;
     let command = with_sides(alloc, command)?;
-    let command = with_subcommand(command, explain_command(alloc))?;
+    let command = with_classes(alloc, command)?;
+    let command = with_reasons(alloc, command)?;
     with_subcommand(command, query_command(alloc))
+}
+
+/// The program without its commands.
+fn bare_command<'a>(alloc: Global) -> Command<'a>
+    ensures app { app_of result ≡ bare_app }
+    ensures local { (fields_of result).has_globals ≡ false }
+{
+    Command::new(alloc, "elc")
+        .about(ABOUT)
+        .after_help(EXAMPLES)
+        .version(VERSION)
+        .subcommand_required(true)
 }
 
 /// The program's command line.
@@ -401,10 +492,7 @@ pub(crate) fn elc_command<'a>(alloc: Global) -> Result<Command<'a>, AllocError>
     ensures app { IfOk result (λ c. app_of c ≡ elc_app) }
     ensures local { IfOk result (λ c. (fields_of c).has_globals ≡ false) }
 {
-    let command = Command::new(alloc, "elc")
-        .about(ABOUT)
-        .after_help(EXAMPLES)
-        .subcommand_required(true);
+    let command = bare_command(alloc);
     let command = with_certificates(alloc, command)?;
     let command = with_documents(alloc, command)?;
     let command = with_questions(alloc, command)?;

@@ -2,8 +2,10 @@
 #![tactic(auto)]
 
 mod command;
+mod receiver;
 mod tasks;
 mod words;
 
-pub use tasks::{Command, Conversion, FormatNumber, LineFault, Paths, Task};
-pub use words::task;
+pub use receiver::{ReceiverTask, Request, receiver_task};
+pub use tasks::{Command, Conversion, FormatNumber, Invocation, LineFault, Paths, Task};
+pub use words::invocation;

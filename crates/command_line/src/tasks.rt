@@ -1,6 +1,6 @@
 //! Tasks, and why words are none.
 
-use program::{Limits, Question};
+use program::{Limits, Question, Spelling};
 use thiserror::Error;
 
 /// The files that a task reads or writes.
@@ -53,15 +53,17 @@ pub enum Command<'a> {
         /// The file that is written.
         output: &'a str,
     },
-    /// Answer the question.
+    /// Answer the question, with names spelled so.
     Ask {
         document: &'a str,
         question: Question<'a>,
+        spelling: Spelling,
     },
-    /// Answer a query of a class expression.
+    /// Answer a query of a class expression, with names spelled so.
     Query {
         document: &'a str,
         expression: &'a str,
+        spelling: Spelling,
     },
     /// Keep the document, and answer commands that are read.
     Session {
@@ -77,6 +79,15 @@ pub struct Task<'a> {
     pub limits: Limits,
     /// Only a classification, a check and a session tell it.
     pub progress: bool,
+}
+
+/// What the words of the program ask for.
+#[derive(Clone, Copy, PartialEq, Eq)]
+pub enum Invocation<'a> {
+    /// To do the task.
+    Task(Task<'a>),
+    /// To tell the version of the program.
+    Version,
 }
 
 /// Why the words are no task.

@@ -1,13 +1,13 @@
 //! Reads the program's words.
 ghost use Rattle.std.specs.Prelude.{◌≡◌, IfOk, IfErr, codes, map, option_map, true};
 ghost use Rattle.clap.specs.Words.{subcommand_rows_of, rows_of, found_of, first_of};
-ghost use Rattle.command_line.specs.CommandLine.{AreLimits, ArePaths, IsAsked, IsCommand, IsConversion, IsFlag, IsFormat, IsNumber, IsQuestion, IsTaskOf, IsTelling, IsVersion, NamesTask, Finds, Refuses, draws_facts as draws, tells_progress as tells};
+ghost use Rattle.command_line.specs.CommandLine.{AreLimits, ArePaths, IsAsked, IsCommand, IsConversion, IsFlag, IsFormat, IsNumber, IsQuestion, IsSpelled, IsTelling, IsToldBy, IsVersion, NamesTask, Finds, Gives, Refuses, draws_facts as draws, tells_progress as tells};
 
 use crate::command::elc_command;
-use crate::tasks::{Command, Conversion, FormatNumber, LineFault, Paths, Task};
+use crate::tasks::{Command, Conversion, FormatNumber, Invocation, LineFault, Paths, Task};
 use clap::ArgMatches;
 use clap::error::ErrorKind;
-use program::{Asked, Limits, MOST_FACTS, Question, Related, Shown, Side, Version};
+use program::{Asked, Limits, MOST_FACTS, Question, Related, Shown, Side, Spelling, Version};
 use std::alloc::Global;
 
 /// The word that stands for the argument.
@@ -18,7 +18,7 @@ fn word<'a>(inner: &ArgMatches<'a>, id: &str) -> Option<&'a str>
 }
 
 /// The paths, which the command requires.
-fn paths<'a>(inner: &ArgMatches<'a>) -> Option<Paths<'a>>
+pub(crate) fn paths<'a>(inner: &ArgMatches<'a>) -> Option<Paths<'a>>
     ensures { Finds (ArePaths (rows_of (found_of inner.now))) result }
 {
     Some(Paths {
@@ -61,22 +61,58 @@ fn why<'a>(inner: &ArgMatches<'a>) -> Option<Question<'a>>
     let shown = Shown {
         graph: flag(inner, "dot")?,
         reached: flag(inner, "reached")?,
+        axioms: flag(inner, "axioms")?,
     };
     Some(Question::Why(asked, class, shown))
+}
+
+/// The question which conditions something has and lacks, whose names the command requires.
+fn lacks<'a>(inner: &ArgMatches<'a>) -> Option<Question<'a>>
+    ensures { Finds (IsQuestion (codes "lacks") (rows_of (found_of inner.now))) result }
+{
+    let asked = asked(inner)?;
+    Some(Question::Lacks(asked, word(inner, "SUPER")?))
+}
+
+/// The question for the classes of an individual, whose name the command requires.
+fn types<'a>(inner: &ArgMatches<'a>) -> Option<Question<'a>>
+    ensures { Finds (IsQuestion (codes "types") (rows_of (found_of inner.now))) result }
+{
+    let individual = word(inner, "INDIVIDUAL")?;
+    if flag(inner, "direct")? {
+        Some(Question::DirectTypes(individual))
+    } else {
+        Some(Question::Types(individual))
+    }
 }
 
 /// The question of the command of that name, where it asks one.
 fn question<'a>(name: &str, inner: &ArgMatches<'a>) -> Option<Question<'a>>
     ensures { Finds (IsQuestion name.now (rows_of (found_of inner.now))) result }
 {
-    if name == "explain" {
-        return why(inner);
+    match name {
+        "explain" => return why(inner),
+        "lacks" => return lacks(inner),
+        "types" => return types(inner),
+        "unsatisfiable" => return Some(Question::Unsatisfiable),
+        _ => {}
     }
     if let Some(related) = Related::of_word(name) {
         return Some(Question::Names(related, word(inner, "CLASS")?));
     }
     let side = Side::of_word(name)?;
     Some(Question::Groups(side, word(inner, "CLASS")?))
+}
+
+/// How names are spelled in what is printed.
+fn spelling(inner: &ArgMatches<'_>) -> Option<Spelling>
+    ensures { Finds (IsSpelled (rows_of (found_of inner.now))) result }
+{
+    if flag(inner, "short")? {
+        Some(Spelling::Short)
+    } else {
+        Some(Spelling::Full)
+    }
 }
 
 /// The number of an option.
@@ -109,7 +145,7 @@ fn format(inner: &ArgMatches<'_>) -> Option<FormatNumber>
 }
 
 /// The conversion, whose names the command requires.
-fn conversion<'a>(inner: &ArgMatches<'a>) -> Option<Conversion<'a>>
+pub(crate) fn conversion<'a>(inner: &ArgMatches<'a>) -> Option<Conversion<'a>>
     ensures { Finds (IsConversion (rows_of (found_of inner.now))) result }
 {
     Some(Conversion {
@@ -131,7 +167,7 @@ fn draws_facts(command: &Command<'_>) -> bool
 }
 
 /// The limits of the command.
-fn limits(inner: &ArgMatches<'_>, command: &Command<'_>) -> Option<Limits>
+pub(crate) fn limits(inner: &ArgMatches<'_>, command: &Command<'_>) -> Option<Limits>
     ensures { Finds (AreLimits (rows_of (found_of inner.now)) command.now) result }
 {
     let max_bytes = number(inner, "max-bytes")?;
@@ -155,7 +191,7 @@ fn tells_progress(command: &Command<'_>) -> bool
 }
 
 /// Whether the command tells its progress.
-fn progress(inner: &ArgMatches<'_>, command: &Command<'_>) -> Option<bool>
+pub(crate) fn progress(inner: &ArgMatches<'_>, command: &Command<'_>) -> Option<bool>
     ensures { Finds (IsTelling (tells command.now) (rows_of (found_of inner.now))) result }
 {
     if tells_progress(command) {
@@ -189,6 +225,7 @@ fn named<'a>(name: &str, inner: &ArgMatches<'a>) -> Option<Command<'a>>
         "query" => Some(Command::Query {
             document: word(inner, "DOC")?,
             expression: word(inner, "EXPRESSION")?,
+            spelling: spelling(inner)?,
         }),
         "session" => Some(Command::Session {
             document: word(inner, "DOC")?,
@@ -196,6 +233,7 @@ fn named<'a>(name: &str, inner: &ArgMatches<'a>) -> Option<Command<'a>>
         _ => Some(Command::Ask {
             document: word(inner, "DOC")?,
             question: question(name, inner)?,
+            spelling: spelling(inner)?,
         }),
     }
 }
@@ -215,12 +253,29 @@ fn entered<'a>(matches: &ArgMatches<'a>) -> Option<Task<'a>>
     })
 }
 
-/// The task that the program's words ask for, the first word being the program's name.
+/// What words ask for that clap does not take, or why they are refused.
+fn untaken<'a>(error: clap::Error) -> Result<Invocation<'a>, LineFault>
+    ensures { IsToldBy error result }
+{
+    let kind = error.kind();
+    if kind == ErrorKind::OutOfMemory {
+        return Err(LineFault::Memory);
+    }
+    if kind == ErrorKind::DisplayVersion {
+        return Ok(Invocation::Version);
+    }
+    Err(LineFault::Line(error))
+}
+
+/// What the program's words ask for, the first word being the program's name: a task, or with `--version` or `-V` before a command
+/// the version.
+///
+/// # Errors
 ///
 /// A word that is missing, unknown or one too many, an option that is given twice, a number out of its range and a call
-/// for help are `Line`.
-pub fn task<'a>(alloc: Global, words: &'a [&'a str]) -> Result<Task<'a>, LineFault>
-    ensures asked { IfOk result (λ t. IsTaskOf (map (λ w. w.now) words.entry.now) t) }
+/// for help are `Line`; that memory was refused is `Memory`.
+pub fn invocation<'a>(alloc: Global, words: &'a [&'a str]) -> Result<Invocation<'a>, LineFault>
+    ensures asked { IfOk result (Gives (map (λ w. w.now) words.entry.now)) }
     ensures refused { IfErr result (Refuses (map (λ w. w.now) words.entry.now)) }
 {
     let Ok(mut command) = elc_command(alloc) else {
@@ -228,15 +283,10 @@ pub fn task<'a>(alloc: Global, words: &'a [&'a str]) -> Result<Task<'a>, LineFau
     };
     let matches = match command.try_get_matches_from_mut(words) {
         Ok(matches) => matches,
-        Err(error) => {
-            if error.kind() == ErrorKind::OutOfMemory {
-                return Err(LineFault::Memory);
-            }
-            return Err(LineFault::Line(error));
-        }
+        Err(error) => return untaken(error),
     };
     match entered(&matches) {
-        Some(task) => return Ok(task),
+        Some(task) => return Ok(Invocation::Task(task)),
         None => return Err(missing_command(&mut command)),
     }
 }

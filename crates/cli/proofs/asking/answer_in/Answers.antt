@@ -1,5 +1,7 @@
+use Rattle.answers.specs.Questions.{names_in}
 use Rattle.cli.proofs.Blamed.{asks_file}
-use Rattle.cli.proofs.ReadFiles.{IsOfFiles}
+use Rattle.cli.proofs.Questions.{fault_in_file}
+use Rattle.receiving.proofs.ReadFiles.{IsOfFiles}
 use Rattle.source_lines.specs.Sources.{source_state}
 use Rattle.cli.proofs.asking.answer_in.Goals as goal
 
@@ -14,3 +16,7 @@ returns-clause-blames g c =
       unfailing = λ e. g.met.F.Files.unfailing e call.new.source;
     } in
     asks_file files.reads_fail known (files.content c.args.files.now c.args.path.now) call.result c.args.limits.now.max_bytes (source_state source c.in-Ok.document) (source_state source call.new.source) c.in-Ok.ensures of call.ensures.read call.ensures.beyond
+
+pub returns-clause-fault : goal.returns-clause-fault
+returns-clause-fault g c =
+    fault_in_file c.question_text.result (g.F.Files.content c.args.files.now c.args.path.now) (g.F.In.Source.left c.in-Ok.document) c.args.limits.now (names_in c.args.question) c.in-Ok.ensures.left c.question_text.ensures.fault

@@ -1,5 +1,6 @@
 use Rattle.cli.proofs.Blamed.{asks_file}
-use Rattle.cli.proofs.ReadFiles.{IsOfFiles}
+use Rattle.cli.proofs.Questions.{query_in_file}
+use Rattle.receiving.proofs.ReadFiles.{IsOfFiles}
 use Rattle.source_lines.specs.Sources.{source_state}
 use Rattle.cli.proofs.asking.query_in.Goals as goal
 
@@ -14,3 +15,7 @@ returns-clause-blames g c =
       unfailing = λ e. g.met.F.Files.unfailing e call.new.source;
     } in
     asks_file files.reads_fail known (files.content c.args.files.now c.args.path.now) call.result c.args.limits.now.max_bytes (source_state source c.in-Ok.document) (source_state source call.new.source) c.in-Ok.ensures of call.ensures.read call.ensures.beyond
+
+pub returns-clause-answered : goal.returns-clause-answered
+returns-clause-answered g c =
+    query_in_file c.query_text.result (g.F.Files.content c.args.files.now c.args.path.now) (g.F.In.Source.left c.in-Ok.document) c.args.limits.now c.args.expression.now c.args.spelling c.in-Ok.ensures.left c.query_text.ensures.answered

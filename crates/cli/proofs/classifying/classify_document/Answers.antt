@@ -1,6 +1,6 @@
 use Rattle.std.proofs.Common.{refl, subst}
 use Rattle.session.proofs.Outcomes.{within_three}
-use Rattle.session.proofs.Told.{progress_behind}
+use Rattle.telling.proofs.Told.{progress_behind}
 use Rattle.session.specs.Run.{IsRunFault}
 use Rattle.session.specs.WrittenTexts.{texts_of}
 use Rattle.session.specs.declared.run_fault.RunFault.{RunFault}

@@ -1,7 +1,7 @@
 use Rattle.std.proofs.Common.{refl}
 use Rattle.cli.proofs.Filed.{IsOver, conversation_over}
-use Rattle.session.proofs.Told.{untold}
-use Rattle.session.specs.Devices.{seen}
+use Rattle.telling.proofs.Told.{untold}
+use Rattle.telling.specs.Devices.{seen}
 use Rattle.source_lines.specs.Sources.{source_state}
 use Rattle.cli.proofs.filing.converse_over_files.Goals as goal
 

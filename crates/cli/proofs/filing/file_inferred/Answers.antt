@@ -1,9 +1,9 @@
 use Rattle.std.proofs.Common.{◌≡◌, ◌∙◌, ℕ, List, subst}
-use Rattle.cli.proofs.Blamed.{IsCounted}
+use Rattle.receiving.proofs.Counted.{IsCounted}
 use Rattle.cli.proofs.FiledInference.{inference_begun}
-use Rattle.cli.proofs.Stored.{one_left}
+use Rattle.receiving.proofs.Stored.{one_left}
 use Rattle.device.specs.Device.{HasFailed}
-use Rattle.session.specs.Devices.{Device, FailsIn, seen}
+use Rattle.telling.specs.Devices.{Device, FailsIn, seen}
 use Rattle.cli.proofs.filing.file_inferred.Goals as goal
 
 pub returns-clause-filed : goal.returns-clause-filed

@@ -3,7 +3,8 @@ use Rattle.certificate.specs.declared.format.Format.TheVariants.{Two}
 use Rattle.cli.proofs.Blamed.{AreCounted, AreWorking}
 use Rattle.cli.proofs.Filed.{texts_answer, texts_blamed}
 use Rattle.cli.proofs.Left.{at_path}
-use Rattle.cli.proofs.Stored.{AreNew, AreSinksClosed, others_kept, stays}
+use Rattle.cli.proofs.Stored.{AreNew, AreSinksClosed, others_kept}
+use Rattle.receiving.proofs.Stored.{stays}
 use Rattle.session.specs.WrittenTexts.{Sinks}
 use Rattle.cli.proofs.filing.file_texts.Goals as goal
 

@@ -1,12 +1,12 @@
 use Rattle.std.proofs.Common.{◌∙◌, ℕ, refl, subst}
-use Rattle.cli.proofs.Blamed.{IsCounted}
+use Rattle.receiving.proofs.Counted.{IsCounted}
 use Rattle.cli.proofs.Inferences.{inference_made}
-use Rattle.cli.proofs.Kept.{refused_memory}
-use Rattle.cli.proofs.ReadFiles.{IsOfFiles}
-use Rattle.cli.proofs.Stored.{one_left, stays}
-use Rattle.cli.specs.Files.{Store, store}
+use Rattle.receiving.proofs.Kept.{refused_memory}
+use Rattle.receiving.proofs.ReadFiles.{IsOfFiles}
+use Rattle.receiving.proofs.Stored.{one_left, stays}
+use Rattle.receiving.specs.Files.{Store, store}
 use Rattle.device.specs.Device.{HasFailed}
-use Rattle.session.specs.Devices.{Device, seen}
+use Rattle.telling.specs.Devices.{Device, seen}
 use Rattle.source_lines.specs.Sources.{source_state}
 use Rattle.cli.proofs.inferring.inferred_file.Goals as goal
 

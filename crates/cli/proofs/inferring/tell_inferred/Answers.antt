@@ -1,8 +1,9 @@
 use Rattle.std.proofs.Common.{◌≡◌, Err, Result, refl, sym, subst}
 use Rattle.classification.specs.declared.classification.Summary.{Summary}
-use Rattle.cli.proofs.Telling.{told}
+use Rattle.telling.proofs.Telling.{told}
 use Rattle.cli.specs.Runs.{IsInferTold}
-use Rattle.cli.specs.Messages.{Output, cannot_write}
+use Rattle.telling.specs.Printing.{Output}
+use Rattle.telling.specs.Messages.{cannot_write}
 use Rattle.cli.specs.declared.fault.InferenceFault.{InferenceFault}
 use Rattle.program.specs.declared.status.Status.TheVariants as statuses
 use Rattle.cli.proofs.inferring.tell_inferred.Goals as goal

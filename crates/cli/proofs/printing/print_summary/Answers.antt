@@ -1,6 +1,6 @@
 use Rattle.std.proofs.Common.{◌∙◌}
 use Rattle.program.specs.declared.status.Status.TheVariants as statuses
-use Rattle.cli.proofs.Pieces.{printed, joined, last}
+use Rattle.telling.proofs.Printed.{printed, joined, last}
 use Rattle.cli.specs.Messages.{summary_text}
 use Rattle.cli.proofs.printing.print_summary.Goals as goal
 

@@ -1,7 +1,8 @@
 use Rattle.std.proofs.Common.{◌≡◌, Err, Result, refl, sym, subst}
-use Rattle.cli.proofs.Telling.{told}
+use Rattle.telling.proofs.Telling.{told}
 use Rattle.cli.specs.Runs.{IsRestrictTold}
-use Rattle.cli.specs.Messages.{Output, cannot_write}
+use Rattle.telling.specs.Printing.{Output}
+use Rattle.telling.specs.Messages.{cannot_write}
 use Rattle.cli.specs.declared.fault.RestrictionFault.{RestrictionFault}
 use Rattle.program.specs.declared.status.Status.TheVariants as statuses
 use Rattle.statements_text.specs.declared.restriction.Restriction.{Restriction}

@@ -1,11 +1,12 @@
 use Rattle.std.proofs.Common.{◌∙◌, refl}
 use Rattle.cli.proofs.Blamed.{AreCounted, AreWorking, classifies_file}
-use Rattle.cli.proofs.Kept.{refused_memory}
+use Rattle.receiving.proofs.Kept.{refused_memory}
 use Rattle.cli.proofs.Left.{at_path, classify_answer}
-use Rattle.cli.proofs.Stored.{AreNew, AreSinksClosed, others_kept, stays}
-use Rattle.cli.proofs.ReadFiles.{IsOfFiles}
+use Rattle.cli.proofs.Stored.{AreNew, AreSinksClosed, others_kept}
+use Rattle.receiving.proofs.Stored.{stays}
+use Rattle.receiving.proofs.ReadFiles.{IsOfFiles}
 use Rattle.source_lines.specs.Sources.{source_state}
-use Rattle.cli.specs.Files.{Store}
+use Rattle.receiving.specs.Files.{Store}
 use Rattle.session.specs.WrittenTexts.{Sinks}
 use Rattle.cli.proofs.run.classified_files.Goals as goal
 

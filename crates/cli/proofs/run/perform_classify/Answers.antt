@@ -1,7 +1,7 @@
 use Rattle.std.proofs.Common.{refl, subst}
 use Rattle.certificate.specs.declared.format.Format.{Format}
-use Rattle.cli.specs.Files.{store}
-use Rattle.cli.specs.Messages.{outputs}
+use Rattle.receiving.specs.Files.{store}
+use Rattle.telling.specs.Printing.{outputs}
 use Rattle.cli.specs.Runs.{IsClassifyMade}
 use Rattle.cli.proofs.run.perform_classify.Goals as goal
 

@@ -1,8 +1,9 @@
 use Rattle.std.proofs.Common.{refl, sym, subst, Result}
 use Rattle.classification.specs.declared.classification.Summary.{Summary}
-use Rattle.cli.proofs.Telling.{told}
+use Rattle.telling.proofs.Telling.{told}
 use Rattle.cli.specs.Runs.{IsClassifyTold}
-use Rattle.cli.specs.Messages.{IsClassifyText, Output, classify_status}
+use Rattle.cli.specs.Messages.{IsClassifyText, classify_status}
+use Rattle.telling.specs.Printing.{Output}
 use Rattle.cli.specs.declared.fault.ClassifyFault.{ClassifyFault}
 use Rattle.cli.proofs.run.tell_classified.Goals as goal
 

@@ -1,6 +1,6 @@
 use Rattle.std.proofs.Common.{Bool, true, [], refl, subst, sym}
 use Rattle.cli.specs.Filing.{IsBegunIn, IsRunOn}
-use Rattle.session.proofs.Told.{progress_behind}
+use Rattle.telling.proofs.Told.{progress_behind}
 use Rattle.speech.specs.declared.session_service.SessionService.{SessionService}
 use Rattle.cli.proofs.Filed.{kept_on, run_on}
 use Rattle.cli.proofs.slicing.run_slices.Goals as goal

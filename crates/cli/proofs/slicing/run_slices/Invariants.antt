@@ -1,7 +1,7 @@
 use Rattle.std.proofs.Common.{◌≡◌, ◌-◌, true}
 use Rattle.cli.specs.Filing.{IsRunOn}
-use Rattle.session.specs.Devices.{seen}
-use Rattle.session.specs.Progress.{IsProgress}
+use Rattle.telling.specs.Devices.{seen}
+use Rattle.telling.specs.Progress.{IsProgress}
 use Rattle.session.specs.Sessions.{KeepsText}
 use Rattle.cli.proofs.slicing.run_slices.Given as goal
 

@@ -1,13 +1,13 @@
 use Rattle.std.proofs.Common.{◌∙◌, ap, inl, inr, refl, rules}
 use Rattle.program.specs.Status.{code_of}
 use Rattle.source_lines.specs.Sources.{source_state}
-use Rattle.speech.specs.Messages.{IsDocumentText}
+use Rattle.telling.specs.Messages.{IsDocumentText}
 use Rattle.profile.specs.Messages.{status_of}
 use Rattle.cli.proofs.Filed.{same_seen, spoken_over}
-use Rattle.session.proofs.Told.{progress_behind}
-use Rattle.cli.proofs.Telling.{nothing_told, told}
-use Rattle.session.specs.Devices.{seen}
-use Rattle.cli.specs.Messages.{outputs}
+use Rattle.telling.proofs.Told.{progress_behind}
+use Rattle.telling.proofs.Telling.{nothing_told, told}
+use Rattle.telling.specs.Devices.{seen}
+use Rattle.telling.specs.Printing.{outputs}
 use Rattle.cli.specs.Filing.{Filed}
 use Rattle.speech.specs.declared.session_service.SessionService.{SessionService}
 use Rattle.cli.proofs.speaking.perform_session.Goals as goal

@@ -1,6 +1,7 @@
 use Rattle.std.proofs.lemmas.Result.{IfOk-weaker}
 use Rattle.cli.proofs.Kept.{opens_file}
-use Rattle.cli.proofs.ReadFiles.{IsOfFiles, opened_blamed}
+use Rattle.receiving.proofs.ReadFiles.{IsOfFiles}
+use Rattle.cli.proofs.ReadFiles.{opened_blamed}
 use Rattle.session.specs.Sessions.{Opened, as_read}
 use Rattle.source_lines.specs.Sources.{source_state}
 use Rattle.cli.proofs.speaking.session_in.Goals as goal

@@ -1,7 +1,5 @@
-use Rattle.std.proofs.Common.{rules, ◌≡◌, IfOk, codes, false, subst, true}
-use Rattle.clap.specs.Words.{App, app_of, new_app, with_subcommand}
-use Rattle.clap.specs.Simple.{on_top}
-use Rattle.clap.specs.declared.builder.command.Command.TheViews.{out-Command as fields_of}
+use Rattle.std.proofs.Common.{◌≡◌, IfOk, subst}
+use Rattle.clap.specs.Words.{App, app_of, with_subcommand}
 use Rattle.command_line.specs.CommandLine.{session_app, with_certificates, with_documents, with_questions}
 use Rattle.command_line.proofs.Additions.{returned_local_with_made, returned_with_made}
 use Rattle.command_line.proofs.command.elc_command.Goals as goal
@@ -12,12 +10,10 @@ returns-clause-app c =
     let Q : App → Type 0 = λ app. P (with_questions app) in
     let R : App → Type 0 = λ app. Q (with_documents app) in
     let S : App → Type 0 = λ app. R (with_certificates app) in
-    let new : app_of c.subcommand_required-command.result ≡ on_top (λ s. record s { subcommand_required = true }) (new_app (codes "elc")) = search rules in
     let last = returned_with_made _ _ _ session_app c.with_subcommand.ensures.app c.session_command.ensures.app c.session_command.ensures.local in
-    subst S new (subst R c.in_ok-command.ensures.app (subst Q c.in_ok-command-2.ensures.app (subst P c.in_ok-command-3.ensures.app last)))
+    subst S c.bare_command-command.ensures.app (subst R c.in_ok-command.ensures.app (subst Q c.in_ok-command-2.ensures.app (subst P c.in_ok-command-3.ensures.app last)))
 
 pub returns-clause-local : goal.returns-clause-local
 returns-clause-local c =
-    let new : (fields_of c.subcommand_required-command.result).has_globals ≡ false = search rules in
-    let third = c.in_ok-command-3.ensures.local (c.in_ok-command-2.ensures.local (c.in_ok-command.ensures.local new)) in
+    let third = c.in_ok-command-3.ensures.local (c.in_ok-command-2.ensures.local (c.in_ok-command.ensures.local c.bare_command-command.ensures.local)) in
     returned_local_with_made _ _ _ c.with_subcommand.ensures.local c.session_command.ensures.local third

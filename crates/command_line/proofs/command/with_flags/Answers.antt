@@ -5,6 +5,6 @@ use Rattle.command_line.proofs.command.with_flags.Goals as goal
 
 pub returns-clause-app : goal.returns-clause-app
 returns-clause-app c =
-    let P : App → Type 0 = λ app. IfOk c.with_flag-3.result (λ last. app_of last ≡ with_rule app (flag (codes "reached"))) in
-    let Q : App → Type 0 = λ app. P (with_rule app (flag (codes "dot"))) in
+    let P : App → Type 0 = λ app. IfOk c.with_flag-3.result (λ last. app_of last ≡ with_rule app (flag (codes "axioms"))) in
+    let Q : App → Type 0 = λ app. P (with_rule app (flag (codes "reached"))) in
     subst Q c.in_ok-command.ensures.app (subst P c.in_ok-command-2.ensures.app c.with_flag-3.ensures.app)

@@ -1,9 +1,9 @@
 use Rattle.std.proofs.Common.{Bool, refl, subst}
 use Rattle.cli.proofs.Filed.{part_told}
 use Rattle.cli.specs.Filing.{IsBegunIn, is_run}
-use Rattle.session.proofs.Told.{progress_behind}
-use Rattle.session.specs.Devices.{seen}
-use Rattle.session.specs.Progress.{IsProgress}
+use Rattle.telling.proofs.Told.{progress_behind}
+use Rattle.telling.specs.Devices.{seen}
+use Rattle.telling.specs.Progress.{IsProgress}
 use Rattle.cli.proofs.filing.FileService.serve.Goals as goal
 
 pub returns-clause-served : goal.returns-clause-served
