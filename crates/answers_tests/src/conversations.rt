@@ -41,8 +41,9 @@ axiom 02
 /// What is replied.
 const REPLIED: &str = "no 2 19
 not run to its end
-ok 8
+ok 19
 facts 8
+consistent
 ok 26
 facts 8 served 8 bytes 42
 ok 50
@@ -68,8 +69,9 @@ unknown command
 ok 0
 no 2 19
 not run to its end
-ok 9
+ok 20
 facts 17
+consistent
 ok 64
 <http://www.w3.org/2002/07/owl#Nothing>
 <x:A>
@@ -134,8 +136,9 @@ children x:C
 
 /// What is replied.
 const REPLIED_NEXT: &str = "ok 0
-ok 9
+ok 20
 facts 26
+consistent
 ok 12
 <x:A>
 <x:B>
@@ -164,8 +167,9 @@ unknown name <x:Q>
 ok 0
 no 2 19
 not run to its end
-ok 9
+ok 22
 facts 29
+inconsistent
 ok 114
 <http://www.w3.org/2002/07/owl#Nothing>
 <http://www.w3.org/2002/07/owl#Thing>
@@ -196,8 +200,9 @@ dot-individual x:a x:B all
 const REPLIED_GRAPHS: &str = "ok 0
 no 2 19
 not run to its end
-ok 9
+ok 20
 facts 14
+consistent
 ok 179
 digraph derivation {
   node [shape=box];
@@ -223,6 +228,165 @@ digraph refutation {
 }
 no 2 19
 unknown name <x:A>
+no 2 16
+unknown command
+no 2 16
+unknown command
+";
+
+/// What is asked of individuals and of classes with conditions: of a document in which E is what is in C and in D, and F has no element.
+const ASKED_TYPES: &str = "add 116
+SubClassOf(:B :C) EquivalentClasses(:E ObjectIntersectionOf(:C :D)) ClassAssertion(:A :a) SubClassOf(:F owl:Nothing)
+types x:a
+run
+unsatisfiable
+types x:a
+direct-types x:a
+types x:A
+direct-types x:b
+lacks x:A x:E
+lacks-individual x:a x:E
+lacks x:A x:C
+lacks x:A x:D
+lacks-individual x:A x:E
+types
+lacks x:A
+unsatisfiable x:A
+";
+
+/// What is replied.
+const REPLIED_TYPES: &str = "ok 0
+no 2 19
+not run to its end
+ok 20
+facts 26
+consistent
+ok 6
+<x:F>
+ok 56
+<http://www.w3.org/2002/07/owl#Thing>
+<x:A>
+<x:B>
+<x:C>
+ok 6
+<x:A>
+no 2 19
+unknown name <x:A>
+no 2 19
+unknown name <x:b>
+ok 30
+axiom 3
+has <x:C>
+lacks <x:D>
+ok 30
+axiom 3
+has <x:C>
+lacks <x:D>
+ok 4
+yes
+ok 13
+no condition
+no 2 19
+unknown name <x:A>
+no 2 16
+unknown command
+no 2 16
+unknown command
+no 2 16
+unknown command
+";
+
+/// What is asked with words behind it, in their order and out of it.
+const ASKED_OPTIONS: &str = "run
+why x:A x:B axioms
+why x:A x:B short
+why x:A x:B axioms short
+why x:B x:A reached axioms
+why x:B x:A reached axioms short
+why x:B x:A reached short
+dot x:B x:A short
+supers x:A short
+parents x:A short
+unsatisfiable short
+lacks x:A x:B short
+axiom 1 short
+supers short
+why x:A short
+why x:A x:B short axioms
+why x:A x:B axioms reached
+why x:A x:B reached axioms short short
+lacks x:A x:B axioms
+supers x:A reached
+axiom 1 axioms
+run short
+";
+
+/// What is replied.
+const REPLIED_OPTIONS: &str = "ok 19
+facts 8
+consistent
+ok 101
+yes
+1. sub <x:A> <x:A> by K1
+2. sub <x:A> <x:B> by K4 axiom 1 from 1
+axiom 1 SubClassOf(<x:A> <x:B>)
+ok 57
+yes
+1. sub :A :A by K1
+2. sub :A :B by K4 axiom 1 from 1
+ok 83
+yes
+1. sub :A :A by K1
+2. sub :A :B by K4 axiom 1 from 1
+axiom 1 SubClassOf(:A :B)
+ok 45
+no
+domain 1
+class <x:B> 0
+element 0
+others 0
+ok 42
+no
+domain 1
+class :B 0
+element 0
+others 0
+ok 42
+no
+domain 1
+class :B 0
+element 0
+others 0
+ok 83
+digraph refutation {
+  node [shape=ellipse];
+  0 [label=\"0\\n:B\", peripheries=2];
+}
+ok 16
+owl:Thing
+:A
+:B
+ok 3
+:B
+ok 0
+ok 4
+yes
+ok 18
+SubClassOf(:A :B)
+no 2 21
+unknown name <short>
+no 2 21
+unknown name <short>
+no 2 16
+unknown command
+no 2 16
+unknown command
+no 2 16
+unknown command
+no 2 16
+unknown command
+no 2 16
+unknown command
 no 2 16
 unknown command
 no 2 16
@@ -260,6 +424,36 @@ fn graphs_of_individuals_are_told(rt: HostRuntime) -> Result<(), Fail> {
             state,
             ASKED_GRAPHS.as_bytes(),
             REPLIED_GRAPHS,
+            Ending::End
+        )
+    );
+    Ok(())
+}
+
+#[test]
+fn types_and_conditions_are_told(rt: HostRuntime) -> Result<(), Fail> {
+    let state = RandomState::new(&rt)?;
+    assert!(rt;
+        is_talk(
+            rt.alloc(),
+            state,
+            ASKED_TYPES.as_bytes(),
+            REPLIED_TYPES,
+            Ending::End
+        )
+    );
+    Ok(())
+}
+
+#[test]
+fn options_are_heeded(rt: HostRuntime) -> Result<(), Fail> {
+    let state = RandomState::new(&rt)?;
+    assert!(rt;
+        is_talk(
+            rt.alloc(),
+            state,
+            ASKED_OPTIONS.as_bytes(),
+            REPLIED_OPTIONS,
             Ending::End
         )
     );

@@ -86,17 +86,17 @@ const ROWS: &[Row] = &[
     },
     Row {
         asked: "unsatisfiable\nrun\nunsatisfiable\n",
-        replied: "no 2 19\nnot run to its end\nok 8\nfacts 8\nok 40\n<http://www.w3.org/2002/07/owl#Nothing>\n",
+        replied: "no 2 19\nnot run to its end\nok 19\nfacts 8\nconsistent\nok 0\n",
         ending: Ending::End,
     },
     Row {
         asked: "run 1\n",
-        replied: "ok 8\nfacts 8\n",
+        replied: "ok 19\nfacts 8\nconsistent\n",
         ending: Ending::End,
     },
     Row {
         asked: "add 17\nSubClassOf(:B :C)\nrun 1\nrun 4294967295\n",
-        replied: "ok 0\nno 5 18\nfacts 10 served 5\nok 9\nfacts 12\n",
+        replied: "ok 0\nno 5 18\nfacts 10 served 5\nok 20\nfacts 12\nconsistent\n",
         ending: Ending::End,
     },
     Row {
@@ -106,12 +106,12 @@ const ROWS: &[Row] = &[
     },
     Row {
         asked: "addition 3\nrun\n",
-        replied: "no 2 16\nunknown command\nok 8\nfacts 8\n",
+        replied: "no 2 16\nunknown command\nok 19\nfacts 8\nconsistent\n",
         ending: Ending::End,
     },
     Row {
         asked: "add 0\n\nrun\n",
-        replied: "ok 0\nok 8\nfacts 8\n",
+        replied: "ok 0\nok 19\nfacts 8\nconsistent\n",
         ending: Ending::End,
     },
     Row {
@@ -171,7 +171,7 @@ fn asked_past_the_limit(alloc: Global) -> Result<String, AllocError> {
 }
 
 const TOLD_PAST_THE_LIMIT: &str =
-    "no 5 27\nlimit: more than 958 bytes\nno 5 27\nlimit: more than 958 bytes\nok 8\nfacts 8\n";
+    "no 5 27\nlimit: more than 958 bytes\nno 5 27\nlimit: more than 958 bytes\nok 19\nfacts 8\nconsistent\n";
 
 #[test]
 fn more_bytes_than_there_is_room_for(rt: HostRuntime) -> Result<(), Fail> {

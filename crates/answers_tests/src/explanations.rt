@@ -91,6 +91,7 @@ const NINE_APART: &str =
 const LINES: Shown = Shown {
     graph: false,
     reached: false,
+    axioms: false,
 };
 
 /// Which explanation is wanted, by its text.
@@ -360,7 +361,7 @@ fn explained(indexed: &Indexed<'_>, question: &Question) -> Result<Option<Explan
         program::Question::Why(question.asked, question.class, LINES),
     ) {
         Ok(Some(Answer::Why(found))) => Ok(Some(found)),
-        Ok(Some(Answer::Names(_) | Answer::Groups(_))) => unreachable!(),
+        Ok(Some(Answer::Names(_) | Answer::Groups(_) | Answer::Lacks(_))) => unreachable!(),
         Ok(None) => Ok(None),
         Err(fault) => Err(fault),
     }

@@ -8,6 +8,8 @@ mod asked;
 #[cfg(test)]
 mod axiom_texts;
 #[cfg(test)]
+mod conditions_asked;
+#[cfg(test)]
 mod conversations;
 #[cfg(test)]
 mod derivations;
@@ -42,6 +44,10 @@ mod session_explanations;
 #[cfg(test)]
 mod sessions;
 #[cfg(test)]
+mod short_texts;
+#[cfg(test)]
 mod talking;
 #[cfg(test)]
 mod texts;
+#[cfg(test)]
+mod types;

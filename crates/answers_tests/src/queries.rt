@@ -4,7 +4,9 @@ use crate::additions::{
     A_BELOW_B, CHAIN_INTO_A_DEFINITION, INDIVIDUALS_AND_DOMAIN, MANY, is_ended, opened, seen,
 };
 use device::SliceSource;
-use session::{Answers, Limits, QueryFault, QuestionFault, Session, Stop, Version, query_text};
+use session::{
+    Answers, Limits, QueryFault, QuestionFault, Session, Spelling, Stop, Version, query_text,
+};
 use std::alloc::{AllocError, Global};
 use std::hash::RandomState;
 use std::test::Fail;
@@ -679,7 +681,14 @@ fn is_asked(alloc: Global, state: RandomState, row: &Asked) -> Result<bool, Allo
         return Ok(false);
     };
     let mut source = SliceSource::new(row.document.as_bytes());
-    let answer = query_text(alloc, &mut source, row.query, &limits, state);
+    let answer = query_text(
+        alloc,
+        &mut source,
+        row.query,
+        Spelling::Full,
+        &limits,
+        state,
+    );
     is_wanted(alloc, &answer, &row.wanted)
 }
 

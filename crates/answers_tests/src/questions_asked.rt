@@ -1,7 +1,9 @@
 //! Questions about documents worked out by hand, and the texts that answer them.
 
 use device::SliceSource;
-use session::{Asked, Limits, Question, QuestionFault, Related, Shown, Version, question_text};
+use session::{
+    Asked, Limits, Question, QuestionFault, Related, Shown, Spelling, Version, question_text,
+};
 use std::alloc::Global;
 use std::hash::RandomState;
 use std::test::Fail;
@@ -16,6 +18,15 @@ const FOUR_INDIVIDUALS: &str =
 
 const INDIVIDUALS: &str =
     "Prefix(:=<x:>) Ontology(SubClassOf(:A :B) ClassAssertion(:A :a) ObjectPropertyAssertion(:r :a :b) ObjectPropertyDomain(:r :C) Declaration(NamedIndividual(:c)))";
+
+const EQUIVALENTS: &str =
+    "Prefix(:=<x:>) Ontology(EquivalentClasses(:B :A) SubClassOf(:A :C) ClassAssertion(:B :a))";
+
+const EMPTY_CLASS: &str =
+    "Prefix(:=<x:>) Ontology(SubClassOf(:A :B) SubClassOf(:A :C) DisjointClasses(:B :C))";
+
+const CONTRADICTORY: &str =
+    "Prefix(:=<x:>) Ontology(DisjointClasses(:A :B) ClassAssertion(:A :a) ClassAssertion(:B :a))";
 
 /// What is expected.
 enum Wanted {
@@ -40,24 +51,28 @@ fn is_wanted(answer: &Result<Vec<u8>, QuestionFault<'_>>, wanted: &Wanted) -> bo
 const LINES: Shown = Shown {
     graph: false,
     reached: false,
+    axioms: false,
 };
 
 /// As a graph, of all.
 const GRAPH: Shown = Shown {
     graph: true,
     reached: false,
+    axioms: false,
 };
 
 /// As lines, of what is reached.
 const REACHED: Shown = Shown {
     graph: false,
     reached: true,
+    axioms: false,
 };
 
 /// As a graph, of what is reached.
 const REACHED_GRAPH: Shown = Shown {
     graph: true,
     reached: true,
+    axioms: false,
 };
 
 /// A question, within so many facts, about a document of the version, and what is expected.
@@ -284,10 +299,128 @@ const WHYS: &[Row] = &[
     },
 ];
 
+const CLASSES: &[Row] = &[
+    Row {
+        case: "a class without elements, and not owl:Nothing",
+        document: EMPTY_CLASS,
+        question: Question::Unsatisfiable,
+        facts: 100,
+        version: Version::Two,
+        wanted: Wanted::Text("<x:A>\n"),
+    },
+    Row {
+        case: "no class without elements",
+        document: SUBCLASS,
+        question: Question::Unsatisfiable,
+        facts: 100,
+        version: Version::Two,
+        wanted: Wanted::Text(""),
+    },
+    Row {
+        case: "all classes without elements",
+        document: CONTRADICTORY,
+        question: Question::Unsatisfiable,
+        facts: 100,
+        version: Version::Two,
+        wanted: Wanted::Text("<http://www.w3.org/2002/07/owl#Thing>\n<x:A>\n<x:B>\n"),
+    },
+    Row {
+        case: "classes of an individual",
+        document: INDIVIDUALS,
+        question: Question::Types("x:a"),
+        facts: 100,
+        version: Version::Two,
+        wanted: Wanted::Text("<http://www.w3.org/2002/07/owl#Thing>\n<x:A>\n<x:B>\n<x:C>\n"),
+    },
+    Row {
+        case: "owl:Thing alone",
+        document: INDIVIDUALS,
+        question: Question::Types("x:c"),
+        facts: 100,
+        version: Version::Two,
+        wanted: Wanted::Text("<http://www.w3.org/2002/07/owl#Thing>\n"),
+    },
+    Row {
+        case: "classes of what it is",
+        document: SAME_INDIVIDUALS,
+        question: Question::Types("x:b"),
+        facts: 100,
+        version: Version::Two,
+        wanted: Wanted::Text("<http://www.w3.org/2002/07/owl#Thing>\n<x:A>\n<x:B>\n"),
+    },
+    Row {
+        case: "all classes",
+        document: CONTRADICTORY,
+        question: Question::Types("x:a"),
+        facts: 100,
+        version: Version::Two,
+        wanted: Wanted::Text(
+            "<http://www.w3.org/2002/07/owl#Nothing>\n<http://www.w3.org/2002/07/owl#Thing>\n<x:A>\n<x:B>\n",
+        ),
+    },
+    Row {
+        case: "a class is no individual",
+        document: INDIVIDUALS,
+        question: Question::Types("x:A"),
+        facts: 100,
+        version: Version::Two,
+        wanted: Wanted::UnknownName("x:A"),
+    },
+    Row {
+        case: "direct types",
+        document: INDIVIDUALS,
+        question: Question::DirectTypes("x:a"),
+        facts: 100,
+        version: Version::Two,
+        wanted: Wanted::Text("<x:A>\n<x:C>\n"),
+    },
+    Row {
+        case: "owl:Thing alone is direct",
+        document: INDIVIDUALS,
+        question: Question::DirectTypes("x:c"),
+        facts: 100,
+        version: Version::Two,
+        wanted: Wanted::Text("<http://www.w3.org/2002/07/owl#Thing>\n"),
+    },
+    Row {
+        case: "a direct type of two names",
+        document: EQUIVALENTS,
+        question: Question::DirectTypes("x:a"),
+        facts: 100,
+        version: Version::Two,
+        wanted: Wanted::Text("<x:A> = <x:B>\n"),
+    },
+    Row {
+        case: "all classes are one group",
+        document: CONTRADICTORY,
+        question: Question::DirectTypes("x:a"),
+        facts: 100,
+        version: Version::Two,
+        wanted: Wanted::Text(
+            "<http://www.w3.org/2002/07/owl#Nothing> = <http://www.w3.org/2002/07/owl#Thing> = <x:A> = <x:B>\n",
+        ),
+    },
+    Row {
+        case: "no individual has direct types",
+        document: SUBCLASS,
+        question: Question::DirectTypes("x:A"),
+        facts: 100,
+        version: Version::Two,
+        wanted: Wanted::UnknownName("x:A"),
+    },
+];
+
 /// Whether the question is answered as is expected.
 fn answers(alloc: Global, state: RandomState, limits: &Limits, row: &Row) -> bool {
     let mut source = SliceSource::new(row.document.as_bytes());
-    let answer = question_text(alloc, &mut source, row.question, limits, state);
+    let answer = question_text(
+        alloc,
+        &mut source,
+        row.question,
+        Spelling::Full,
+        limits,
+        state,
+    );
     is_wanted(&answer, &row.wanted)
 }
 
@@ -295,6 +428,16 @@ fn answers(alloc: Global, state: RandomState, limits: &Limits, row: &Row) -> boo
 fn individuals_of_a_class(rt: HostRuntime) -> Result<(), Fail> {
     let state = RandomState::new(&rt)?;
     for row in MEMBERS {
+        let limits = Limits::new(1000, row.facts, row.version).ok_or("limits")?;
+        assert!(rt; answers(rt.alloc(), state, &limits, row), "{}", row.case);
+    }
+    Ok(())
+}
+
+#[test]
+fn classes_of_individuals_and_those_without_elements(rt: HostRuntime) -> Result<(), Fail> {
+    let state = RandomState::new(&rt)?;
+    for row in CLASSES {
         let limits = Limits::new(1000, row.facts, row.version).ok_or("limits")?;
         assert!(rt; answers(rt.alloc(), state, &limits, row), "{}", row.case);
     }

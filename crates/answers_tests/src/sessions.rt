@@ -77,7 +77,7 @@ const ROWS: &[Row] = &[
 ];
 
 /// Whether the names are these, each behind a space.
-fn are_names(names: &[&str], wanted: &str) -> bool {
+pub(crate) fn are_names(names: &[&str], wanted: &str) -> bool {
     let mut rest = wanted;
     for name in names {
         match rest.strip_prefix(' ') {
@@ -92,7 +92,7 @@ fn are_names(names: &[&str], wanted: &str) -> bool {
 }
 
 /// Whether the answer is these names.
-fn is_answer(answer: Result<Vec<&str>, AskFault<'_>>, wanted: &str) -> bool {
+pub(crate) fn is_answer(answer: Result<Vec<&str>, AskFault<'_>>, wanted: &str) -> bool {
     match answer {
         Ok(names) => are_names(&names, wanted),
         Err(_) => false,
@@ -100,7 +100,7 @@ fn is_answer(answer: Result<Vec<&str>, AskFault<'_>>, wanted: &str) -> bool {
 }
 
 /// Whether the answer is this fault.
-fn is_fault(answer: Result<Vec<&str>, AskFault<'_>>, wanted: AskFault<'_>) -> bool {
+pub(crate) fn is_fault(answer: Result<Vec<&str>, AskFault<'_>>, wanted: AskFault<'_>) -> bool {
     match answer {
         Ok(_) => false,
         Err(fault) => fault == wanted,

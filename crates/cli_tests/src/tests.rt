@@ -9,6 +9,7 @@ mod formats;
 mod hierarchies;
 mod inferring;
 mod progress;
+mod receivers;
 mod refusals;
 mod refused;
 mod restricting;

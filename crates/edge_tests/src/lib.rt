@@ -8,4 +8,6 @@ mod files;
 #[cfg(test)]
 mod limits;
 #[cfg(test)]
+mod receiver_words;
+#[cfg(test)]
 mod words;

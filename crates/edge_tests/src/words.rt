@@ -1,7 +1,11 @@
 //! Command lines and their tasks.
 
-use command_line::{Command, Conversion, FormatNumber, LineFault, Paths, Task, task};
-use program::{Asked, Limits, MOST_BYTES, MOST_FACTS, Question, Related, Shown, Side, Version};
+use command_line::{
+    Command, Conversion, FormatNumber, Invocation, LineFault, Paths, Task, invocation,
+};
+use program::{
+    Asked, Limits, MOST_BYTES, MOST_FACTS, Question, Related, Shown, Side, Spelling, Version,
+};
 use std::alloc::{AllocError, Global};
 use std::test::Fail;
 
@@ -19,21 +23,37 @@ const EXPRESSION: &str = "ObjectSomeValuesFrom(:r :A)";
 const LINES: Shown = Shown {
     graph: false,
     reached: false,
+    axioms: false,
 };
 
 const GRAPH: Shown = Shown {
     graph: true,
     reached: false,
+    axioms: false,
 };
 
 const REACHED: Shown = Shown {
     graph: false,
     reached: true,
+    axioms: false,
 };
 
 const GRAPH_REACHED: Shown = Shown {
     graph: true,
     reached: true,
+    axioms: false,
+};
+
+const AXIOMS: Shown = Shown {
+    graph: false,
+    reached: false,
+    axioms: true,
+};
+
+const ALL_SHOWN: Shown = Shown {
+    graph: true,
+    reached: true,
+    axioms: true,
 };
 
 /// Words, and the command and the limits that they give, with the version.
@@ -219,6 +239,7 @@ const ROWS: &[Row] = &[
         command: Command::Ask {
             document: "a.ofn",
             question: Question::Names(Related::Instances, "x:A"),
+            spelling: Spelling::Full,
         },
         max_facts: 9,
         max_bytes: 1000,
@@ -230,6 +251,7 @@ const ROWS: &[Row] = &[
         command: Command::Query {
             document: "a.ofn",
             expression: EXPRESSION,
+            spelling: Spelling::Full,
         },
         max_facts: 100_000_000,
         max_bytes: 268_435_456,
@@ -250,6 +272,87 @@ const ROWS: &[Row] = &[
         command: Command::Query {
             document: "a.ofn",
             expression: EXPRESSION,
+            spelling: Spelling::Full,
+        },
+        max_facts: 9,
+        max_bytes: 1000,
+        version: Version::One,
+    },
+    Row {
+        case: "query with short names",
+        words: &["elc", "query", "a.ofn", "--short", EXPRESSION],
+        command: Command::Query {
+            document: "a.ofn",
+            expression: EXPRESSION,
+            spelling: Spelling::Short,
+        },
+        max_facts: 100_000_000,
+        max_bytes: 268_435_456,
+        version: Version::Two,
+    },
+    Row {
+        case: "lacks with all options",
+        words: &[
+            "elc",
+            "lacks",
+            "--max-facts=9",
+            "a.ofn",
+            "--individual",
+            "x:a",
+            "--short",
+            "x:B",
+            "--max-bytes",
+            "1000",
+            "--profile=1",
+        ],
+        command: Command::Ask {
+            document: "a.ofn",
+            question: Question::Lacks(Asked::Individual("x:a"), "x:B"),
+            spelling: Spelling::Short,
+        },
+        max_facts: 9,
+        max_bytes: 1000,
+        version: Version::One,
+    },
+    Row {
+        case: "types with all options",
+        words: &[
+            "elc",
+            "types",
+            "a.ofn",
+            "--direct",
+            "x:a",
+            "--max-bytes",
+            "1000",
+            "--short",
+            "--profile=1",
+            "--max-facts=9",
+        ],
+        command: Command::Ask {
+            document: "a.ofn",
+            question: Question::DirectTypes("x:a"),
+            spelling: Spelling::Short,
+        },
+        max_facts: 9,
+        max_bytes: 1000,
+        version: Version::One,
+    },
+    Row {
+        case: "unsatisfiable with all options",
+        words: &[
+            "elc",
+            "unsatisfiable",
+            "--short",
+            "--max-bytes",
+            "1000",
+            "--profile=1",
+            "--max-facts=9",
+            "a.ofn",
+        ],
+        command: Command::Ask {
+            document: "a.ofn",
+            question: Question::Unsatisfiable,
+            spelling: Spelling::Short,
         },
         max_facts: 9,
         max_bytes: 1000,
@@ -272,6 +375,7 @@ const ROWS: &[Row] = &[
         command: Command::Ask {
             document: "a.ofn",
             question: Question::Why(Asked::Class("x:A"), "x:B", LINES),
+            spelling: Spelling::Full,
         },
         max_facts: 9,
         max_bytes: 1000,
@@ -281,9 +385,9 @@ const ROWS: &[Row] = &[
 
 /// The task that the words give. Here, in `refuses` and in `told` alone is a fault let go, which takes long to prove.
 fn taken<'a>(alloc: Global, words: &'a [&'a str]) -> Option<Task<'a>> {
-    match task(alloc, words) {
-        Ok(task) => Some(task),
-        Err(_) => None,
+    match invocation(alloc, words) {
+        Ok(Invocation::Task(task)) => Some(task),
+        _ => None,
     }
 }
 
@@ -365,10 +469,72 @@ const QUESTIONS: &[(&str, Question<'static>)] = &[
         "elc explain a.ofn x:A x:B --dot --reached --individual",
         Question::Why(Asked::Individual("x:A"), "x:B", GRAPH_REACHED),
     ),
+    (
+        "elc explain a.ofn x:A --axioms x:B",
+        Question::Why(Asked::Class("x:A"), "x:B", AXIOMS),
+    ),
+    (
+        "elc explain a.ofn x:A x:B --axioms --dot --individual --reached",
+        Question::Why(Asked::Individual("x:A"), "x:B", ALL_SHOWN),
+    ),
+    ("elc types a.ofn x:a", Question::Types("x:a")),
+    ("elc types --direct a.ofn x:a", Question::DirectTypes("x:a")),
+    ("elc unsatisfiable a.ofn", Question::Unsatisfiable),
+    (
+        "elc lacks a.ofn x:A x:B",
+        Question::Lacks(Asked::Class("x:A"), "x:B"),
+    ),
+    (
+        "elc lacks a.ofn x:A --individual x:B",
+        Question::Lacks(Asked::Individual("x:A"), "x:B"),
+    ),
 ];
 
-/// Whether the line asks this of the document, within the greatest limits and without progress.
-fn asks(alloc: Global, line: &str, question: Question<'_>) -> Result<bool, AllocError> {
+/// Lines that ask with the flag for short names, each with its question.
+const SHORT_QUESTIONS: &[(&str, Question<'static>)] = &[
+    (
+        "elc supers --short a.ofn x:A",
+        Question::Names(Related::Superclasses, "x:A"),
+    ),
+    (
+        "elc subs a.ofn --short x:A",
+        Question::Names(Related::Subclasses, "x:A"),
+    ),
+    (
+        "elc equivalents a.ofn x:A --short",
+        Question::Names(Related::Equivalents, "x:A"),
+    ),
+    (
+        "elc instances a.ofn x:A --short",
+        Question::Names(Related::Instances, "x:A"),
+    ),
+    (
+        "elc parents a.ofn x:A --short",
+        Question::Groups(Side::Above, "x:A"),
+    ),
+    (
+        "elc children a.ofn --short x:A",
+        Question::Groups(Side::Below, "x:A"),
+    ),
+    (
+        "elc explain --short a.ofn x:A x:B --axioms",
+        Question::Why(Asked::Class("x:A"), "x:B", AXIOMS),
+    ),
+    ("elc types a.ofn x:a --short", Question::Types("x:a")),
+    ("elc unsatisfiable --short a.ofn", Question::Unsatisfiable),
+    (
+        "elc lacks a.ofn x:A x:B --short",
+        Question::Lacks(Asked::Class("x:A"), "x:B"),
+    ),
+];
+
+/// Whether the line asks this of the document, with names spelled so, within the greatest limits and without progress.
+fn asks(
+    alloc: Global,
+    line: &str,
+    question: Question<'_>,
+    spelling: Spelling,
+) -> Result<bool, AllocError> {
     let words: Vec<&str> = line.split(' ').collect(alloc)?;
     let Some(limits) = Limits::new(MOST_BYTES, MOST_FACTS, Version::Two) else {
         return Ok(false);
@@ -377,6 +543,7 @@ fn asks(alloc: Global, line: &str, question: Question<'_>) -> Result<bool, Alloc
         command: Command::Ask {
             document: "a.ofn",
             question,
+            spelling,
         },
         limits,
         progress: false,
@@ -388,14 +555,26 @@ fn asks(alloc: Global, line: &str, question: Question<'_>) -> Result<bool, Alloc
 fn commands_that_ask(rt: HostRuntime) -> Result<(), Fail> {
     for row in QUESTIONS {
         let (line, question) = *row;
-        assert!(rt; asks(rt.alloc(), line, question)?, "{line}");
+        assert!(rt; asks(rt.alloc(), line, question, Spelling::Full)?, "{line}");
+    }
+    Ok(())
+}
+
+#[test]
+fn commands_that_ask_for_short_names(rt: HostRuntime) -> Result<(), Fail> {
+    for row in SHORT_QUESTIONS {
+        let (line, question) = *row;
+        assert!(rt;
+            asks(rt.alloc(), line, question, Spelling::Short)?,
+            "{line}"
+        );
     }
     Ok(())
 }
 
 /// Whether the words are refused as a line.
 fn refuses(alloc: Global, words: &[&str]) -> Result<bool, AllocError> {
-    match task(alloc, words) {
+    match invocation(alloc, words) {
         Ok(_) => Ok(false),
         Err(LineFault::Line(_)) => Ok(true),
         Err(LineFault::Memory) => Err(AllocError),
@@ -501,6 +680,39 @@ const REFUSED: &[&str] = &[
     "elc explain a b c --profile=0",
     "elc explain a b c --format 2",
     "elc explain --help",
+    "elc explain a b c --axioms --axioms",
+    "elc explain a b c --short=yes",
+    "elc explain a b c --direct",
+    "elc explain --version",
+    "elc lacks a b",
+    "elc lacks a b --individual",
+    "elc lacks a b c d",
+    "elc lacks a b c --dot",
+    "elc lacks a b c --axioms",
+    "elc lacks a b c --short --short",
+    "elc lacks a b c --max-facts 0",
+    "elc lacks a b c --profile 3",
+    "elc lacks --help",
+    "elc types a",
+    "elc types a b c",
+    "elc types a b --individual",
+    "elc types a b --direct --direct",
+    "elc types a b --max-bytes 268435457",
+    "elc types --help",
+    "elc unsatisfiable",
+    "elc unsatisfiable a b",
+    "elc unsatisfiable a --direct",
+    "elc unsatisfiable a --progress",
+    "elc unsatisfiable a --max-facts 100000001",
+    "elc unsatisfiable --help",
+    "elc instances a b --short --short",
+    "elc classify a b c d --short",
+    "elc check a b c d --short",
+    "elc session a --short",
+    "elc infer a b --short",
+    "elc -v",
+    "elc version",
+    "elc check --version",
     "elc query a",
     "elc query a b c",
     "elc query a b --dot",
@@ -563,8 +775,11 @@ const EXAMPLES: &[&str] = &[
     "elc infer food.ofn inferred.ofn",
     "elc instances food.ofn http://example.org/Pizza",
     "elc parents food.ofn http://example.org/Pizza",
-    "elc explain food.ofn http://example.org/Pizza http://example.org/Food",
+    "elc types food.ofn http://example.org/margherita --direct",
+    "elc unsatisfiable food.ofn",
+    "elc explain food.ofn http://example.org/Pizza http://example.org/Food --axioms --short",
     "elc explain food.ofn http://example.org/margherita http://example.org/Pizza --individual",
+    "elc lacks food.ofn http://example.org/Pizza http://example.org/NutDish",
 ];
 
 /// The example of a query, whose expression is one word without the quotation marks.
@@ -580,7 +795,7 @@ const QUERY_EXAMPLE_WORDS: &[&str] = &[
 /// What is told of the words.
 fn told(alloc: Global, line: &str) -> Result<String, Fail> {
     let words: Vec<&str> = line.split(' ').collect(alloc)?;
-    match task(alloc, &words) {
+    match invocation(alloc, &words) {
         Err(LineFault::Memory) => Err(Fail::from("no memory")),
         Err(fault) => Ok(format!(in alloc; "{fault}")?),
         Ok(_) => Err(Fail::from("a task")),
@@ -627,6 +842,13 @@ const TOLD: &[(&str, &str)] = &[
         "elc --help",
         "Writes the inferred axioms of DOC as a document to OUT",
     ),
+    ("elc --help", "Print version"),
+    ("elc lacks a b", "<SUPER>"),
+    ("elc types a", "<INDIVIDUAL>"),
+    ("elc unsatisfiable", "<DOC>"),
+    ("elc types --help", "types [OPTIONS] <DOC> <INDIVIDUAL>"),
+    ("elc check a b c d --short", "unexpected argument '--short'"),
+    ("elc check --version", "unexpected argument '--version'"),
     ("elc classify a b c d --max-facts 0", "'0' for '--max-facts"),
     ("elc check a b c d --profile 3", "'3' for '--profile"),
 ];
@@ -638,6 +860,35 @@ fn what_is_told_of_wrong_words(rt: HostRuntime) -> Result<(), Fail> {
         let text = told(rt.alloc(), line)?;
         assert!(rt; text.as_str().contains(part), "{line}: {text}");
     }
+    Ok(())
+}
+
+/// Lines that ask for the version, what comes behind them notwithstanding.
+const VERSION_LINES: &[&str] = &[
+    "elc --version",
+    "elc -V",
+    "elc -V --help",
+    "elc --version check a b c d",
+    "elc --version --no-such-option",
+];
+
+/// Whether the line asks for the version.
+fn asks_version(alloc: Global, line: &str) -> Result<bool, AllocError> {
+    let words: Vec<&str> = line.split(' ').collect(alloc)?;
+    match invocation(alloc, &words) {
+        Ok(invocation) => Ok(invocation == Invocation::Version),
+        Err(LineFault::Line(_)) => Ok(false),
+        Err(LineFault::Memory) => Err(AllocError),
+    }
+}
+
+#[test]
+fn lines_that_ask_for_the_version(rt: HostRuntime) -> Result<(), Fail> {
+    for line in VERSION_LINES {
+        assert!(rt; asks_version(rt.alloc(), line)?, "{line}");
+    }
+    assert!(rt; !asks_version(rt.alloc(), "elc --help --version")?);
+    assert!(rt; !asks_version(rt.alloc(), "elc check --version")?);
     Ok(())
 }
 

@@ -1,6 +1,9 @@
 //! Runs that answer a question about a document, where no file can be written.
 
+mod conditions;
 mod related;
+mod spelled;
+mod types;
 
 use super::*;
 
@@ -483,6 +486,43 @@ fn is_so<R: AllocGlobal + RandomSource>(rt: &R, row: &Row) -> Result<bool, Fail>
         ("", row.text)
     };
     Ok(is_run(&run, row.status, out, err))
+}
+
+/// Whether the line's run on the document ends with the status and prints that text.
+fn says<R: AllocGlobal + RandomSource>(
+    rt: &R,
+    document: &str,
+    line: &str,
+    status: u8,
+    text: &str,
+) -> Result<bool, Fail> {
+    let words: Vec<&str> = line.split(' ').collect(rt.alloc())?;
+    let run = alone(rt, &words, document.as_bytes())?;
+    Ok(is_run(&run, status, text, ""))
+}
+
+/// Whether the line's run on the document prints that text, which is given in short.
+fn prints<R: AllocGlobal + RandomSource>(
+    rt: &R,
+    document: &str,
+    line: &str,
+    short: &str,
+) -> Result<bool, Fail> {
+    let text = text_of(rt.alloc(), short)?;
+    says(rt, document, line, 0, text.as_str())
+}
+
+/// Whether the line's run on the document is refused with that status, and tells that.
+fn tells<R: AllocGlobal + RandomSource>(
+    rt: &R,
+    document: &str,
+    line: &str,
+    status: u8,
+    told: &str,
+) -> Result<bool, Fail> {
+    let words: Vec<&str> = line.split(' ').collect(rt.alloc())?;
+    let run = alone(rt, &words, document.as_bytes())?;
+    Ok(is_run(&run, status, "", told))
 }
 
 #[test]

@@ -484,7 +484,7 @@ fn a_session_writes_the_files_before_one_that_fails(rt: HostRuntime) -> Result<(
     let files = files_asked(rt.alloc(), ASKED_UNWRITTEN)?;
     let (run, texts) = run_failing(&rt, SESSION, files, "inst", 0)?;
     let told =
-        "ok 8\nfacts 8\nno 6 18\ncannot write inst\nok 43\nconsistent classes 4 individuals 0 facts 8\nok 26\nfacts 8 served 8 bytes 33\n";
+        "ok 19\nfacts 8\nconsistent\nno 6 18\ncannot write inst\nok 43\nconsistent classes 4 individuals 0 facts 8\nok 26\nfacts 8 served 8 bytes 33\n";
     assert!(rt; is_run(&run, 0, told, ""));
     assert!(rt; are_texts(&texts, ONE, ""));
     assert!(rt; texts.certificate.is_empty());

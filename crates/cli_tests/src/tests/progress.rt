@@ -79,10 +79,12 @@ const TELLING_SESSION: &[&str] = &["elc", "session", "doc", "--progress"];
 /// A run, one of which nothing is left, and a question.
 const ASKED: &str = "run\nrun\nsupers x:A\n";
 
-const REPLIED: &str = "ok 8
+const REPLIED: &str = "ok 19
 facts 5
-ok 8
+consistent
+ok 19
 facts 5
+consistent
 ok 44
 <http://www.w3.org/2002/07/owl#Thing>
 <x:A>

@@ -23,8 +23,9 @@ const REPLIED: &str = "no 2 19
 not run to its end
 no 2 19
 not run to its end
-ok 8
+ok 19
 facts 8
+consistent
 ok 43
 consistent classes 4 individuals 0 facts 8
 ok 43
@@ -67,13 +68,15 @@ write inst cert tax
 write tax inst cert
 ";
 
-const REPLIED_ADDED: &str = "ok 8
+const REPLIED_ADDED: &str = "ok 19
 facts 8
+consistent
 ok 0
 no 2 19
 not run to its end
-ok 9
+ok 20
 facts 12
+consistent
 ok 44
 consistent classes 5 individuals 0 facts 12
 ok 44
@@ -128,7 +131,7 @@ fn a_file_that_is_not_written_is_named(rt: HostRuntime) -> Result<(), Fail> {
     let run = run_of(&rt, SESSION, &mut files)?;
     let texts = texts_in(rt.alloc(), &files)?;
     let told =
-        "ok 8\nfacts 8\nno 6 17\ncannot write tax\nno 6 17\ncannot write out\nok 26\nfacts 8 served 8 bytes 33\n";
+        "ok 19\nfacts 8\nconsistent\nno 6 17\ncannot write tax\nno 6 17\ncannot write out\nok 26\nfacts 8 served 8 bytes 33\n";
     assert!(rt; is_run(&run, 0, told, ""));
     assert!(rt; are_same(&texts, &no_texts(rt.alloc())));
     Ok(())

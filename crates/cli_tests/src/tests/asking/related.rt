@@ -80,19 +80,6 @@ const ANSWERS_OF_CONTRADICTED: &[(&str, &str)] = &[
     ("elc instances doc x:B", "<x:a>/"),
 ];
 
-/// Whether the line's run on the document prints that text, which is given in short.
-fn prints<R: AllocGlobal + RandomSource>(
-    rt: &R,
-    document: &str,
-    line: &str,
-    short: &str,
-) -> Result<bool, Fail> {
-    let words: Vec<&str> = line.split(' ').collect(rt.alloc())?;
-    let text = text_of(rt.alloc(), short)?;
-    let run = alone(rt, &words, document.as_bytes())?;
-    Ok(is_run(&run, 0, text.as_str(), ""))
-}
-
 #[test]
 fn names_in_order(rt: HostRuntime) -> Result<(), Fail> {
     for row in ANSWERS {
