@@ -153,7 +153,7 @@ final class ElcSession implements AutoCloseable {
         return classes.stream().map(nodes::get).distinct().collect(Collectors.toList());
     }
 
-    private static boolean isShort(OWLClass one) {
+    private static boolean isShort(OWLEntity one) {
         return one.getIRI().length() * 3L <= LONGEST;
     }
 
@@ -269,6 +269,17 @@ final class ElcSession implements AutoCloseable {
 
     /** The groups of classes that the individual belongs to, or the least of them alone. */
     List<Node<OWLClass>> types(OWLNamedIndividual individual, boolean direct) {
+        if (!isShort(individual)) {
+            return typesFromAbove(individual, direct);
+        }
+        if (direct) {
+            return replies.groups(process.ask("direct-types " + individual.getIRI())).stream().map(this::canonical).collect(Collectors.toList());
+        }
+        return nodes(replies.classes(process.ask("types " + individual.getIRI())));
+    }
+
+    /** The same of one whose name does not fit into a line: from the top down. */
+    private List<Node<OWLClass>> typesFromAbove(OWLNamedIndividual individual, boolean direct) {
         List<Node<OWLClass>> found = new ArrayList<>();
         Deque<Node<OWLClass>> waiting = new ArrayDeque<>(List.of(node(factory.getOWLThing())));
         Set<OWLClass> seen = new HashSet<>();
