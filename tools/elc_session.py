@@ -94,9 +94,10 @@ class Session(contextlib.AbstractContextManager):
         self.command("add", text)
 
     def run(self, most=None):
-        """Finds out what follows, of `most` as far as so many facts more, and gives the number of facts. Where there are more than these,
-        the text of what is raised, of status 5, has the counts of facts and of served ones."""
-        return self.counts("run" if most is None else f"run {most}")["facts"]
+        """Finds out what follows, of `most` as far as so many facts more, and gives the number of facts, and whether the axioms hold in
+        some interpretation. Where there are more facts, the text of what is raised, of status 5, has the counts of facts and of served ones."""
+        facts, word = lines_of(self.command("run" if most is None else f"run {most}"))
+        return int(facts.split()[1]), word == "consistent"
 
     def status(self):
         """The numbers of facts, of those that are served, and of bytes."""
@@ -119,7 +120,7 @@ class Session(contextlib.AbstractContextManager):
         return self.names(f"equivalents {iri}")
 
     def unsatisfiable(self):
-        """The classes that have no instance in any interpretation, `owl:Nothing` among them, in byte order."""
+        """The classes but `owl:Nothing` that have no instance in any interpretation, in byte order."""
         return self.names("unsatisfiable")
 
     def parents(self, iri):
@@ -134,29 +135,49 @@ class Session(contextlib.AbstractContextManager):
         """The individuals of the class, in byte order."""
         return self.names(f"instances {iri}")
 
-    def why(self, below, above, reached=False):
-        """Why the one class is below the other, or why not, as `elc explain` prints it."""
-        return self.command(f"why {below} {above}" + " reached" * reached)
+    def types(self, iri):
+        """The classes of the individual, in byte order."""
+        return self.names(f"types {iri}")
 
-    def why_individual(self, individual, iri, reached=False):
+    def direct_types(self, iri):
+        """The least classes of the individual, in groups of those that are the same."""
+        return self.groups(f"direct-types {iri}")
+
+    def lacks(self, below, above, short=False):
+        """Which conditions for the one class the other has, and which it lacks, as `elc lacks` prints them."""
+        return self.command(f"lacks {below} {above}" + " short" * short)
+
+    def lacks_individual(self, individual, iri, short=False):
+        """Which conditions for the class the individual has, and which it lacks."""
+        return self.command(f"lacks-individual {individual} {iri}" + " short" * short)
+
+    def explained(self, line, reached=False, axioms=False, short=False):
+        """What explains it, with words behind the line: as `elc explain --reached --axioms --short` prints it."""
+        return self.command(line + " reached" * reached + " axioms" * axioms + " short" * short)
+
+    def why(self, below, above, **words):
+        """Why the one class is below the other, or why not, as `elc explain` prints it. The words are those of `explained`."""
+        return self.explained(f"why {below} {above}", **words)
+
+    def why_individual(self, individual, iri, **words):
         """Why the individual is in the class, or why not."""
-        return self.command(f"why-individual {individual} {iri}" + " reached" * reached)
+        return self.explained(f"why-individual {individual} {iri}", **words)
 
-    def dot(self, below, above, reached=False):
+    def dot(self, below, above, **words):
         """The same as `why`, as a graph for Graphviz."""
-        return self.command(f"dot {below} {above}" + " reached" * reached)
+        return self.explained(f"dot {below} {above}", **words)
 
-    def dot_individual(self, individual, iri, reached=False):
+    def dot_individual(self, individual, iri, **words):
         """The same as `why_individual`, as a graph for Graphviz."""
-        return self.command(f"dot-individual {individual} {iri}" + " reached" * reached)
+        return self.explained(f"dot-individual {individual} {iri}", **words)
 
     def query(self, expression):
         """The classes above and below a class expression and its individuals, as lines of `elc query`."""
         return self.command("query", expression)
 
-    def axiom(self, number):
+    def axiom(self, number, short=False):
         """The axiom of that number, as explanations cite it."""
-        return self.command(f"axiom {number}")
+        return self.command(f"axiom {number}" + " short" * short)
 
     def write(self, taxonomy, instances, certificate):
         """Writes the texts of the classification into the files at these paths, and gives the line of `elc classify`."""
