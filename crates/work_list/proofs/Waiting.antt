@@ -1,10 +1,10 @@
 -- Facts that wait, in a list for each context.
-use Rattle.std.proofs.Common.{◌≡◌, ℕ, zero, suc, ◌+◌, ◌<◌, Bool, true, false, inl, inr, List, [], ◌∷◌, ◌++◌, length, get_or, set, Option, Some, None, refl, sym, ap, ◌∙◌, subst, append-nil, length-append, cond, arith}
+use Rattle.std.proofs.Common.{◌≡◌, ℕ, zero, suc, ◌+◌, ◌<◌, Bool, true, false, inl, inr, List, [], ◌∷◌, ◌++◌, length, get_or, set, Option, Some, None, refl, sym, ap, ◌∙◌, subst, length-append, cond, arith}
 use Rattle.std.specs.Prelude.{Contains, ◌⊎◌, IfNone, IfSome}
 use Rattle.std.proofs.lemmas.Bool.{cases_eq, cases_lt, false≢true}
-use Rattle.std.proofs.lemmas.List.{get_or-map, get_or-set_other, get_or_past, length_push, length-map, map-append, set-get_or}
+use Rattle.std.proofs.lemmas.List.{get_or-map, get_or-set_other, get_or_past, length-map, set-get_or}
 use Rattle.std.proofs.lemmas.List.Elements.{Contains-append_cases, Contains-append_left, Contains-append_right, Contains-push}
-use Rattle.std.proofs.lemmas.List.Sums.{sum_by-append, sum_by_push}
+use Rattle.std.proofs.lemmas.List.Sums.{sum_by-append, sum_by-cons}
 use Rattle.number_sets.specs.Members.{has}
 use Rattle.work_list.specs.declared.item.Item.{Item}
 use Rattle.work_list.specs.Bag.{Adds, HasItemOf, is_item}
@@ -28,8 +28,8 @@ longer_items ls = longer_from 0 ls
 
 -- ---- one item more
 
-adds_push : (xs : List Item) (x : Item) → Adds x xs (xs ++ x ∷ [])
-adds_push xs x = record { each = λ y. sum_by_push (λ z. cond (is_item y z) 1 0) xs x; total = length_push xs x }
+adds_first : (xs : List Item) (x : Item) → Adds x xs (x ∷ xs)
+adds_first xs x = record { each = λ y. omega (arith, sum_by-cons (λ z. cond (is_item y z) 1 0) x xs); total = omega arith }
 
 adds_front : (front xs ys : List Item) (x : Item) → Adds x xs ys → Adds x (front ++ xs) (front ++ ys)
 adds_front front xs ys x w = record {
@@ -37,34 +37,27 @@ adds_front front xs ys x w = record {
   total = omega (arith, w.total, length-append front xs, length-append front ys);
 }
 
-adds_back : (xs ys back : List Item) (x : Item) → Adds x xs ys → Adds x (xs ++ back) (ys ++ back)
-adds_back xs ys back x w = record {
-  each = λ y. (let a = sum_by-append (λ z. cond (is_item y z) 1 0) xs back in let b = sum_by-append (λ z. cond (is_item y z) 1 0) ys back in let e = w.each y in omega (arith, a, b, e));
-  total = omega (arith, w.total, length-append xs back, length-append ys back);
-}
-
-added_from : (base c : ℕ) (ls : List (List ℕ)) (k fact : ℕ) (l : List ℕ) → c ≡ base + k → k < length ls → Adds (item_of c fact) (items_from base (set ls k l)) (items_from base (set ls k (l ++ fact ∷ [])))
+added_from : (base c : ℕ) (ls : List (List ℕ)) (k fact : ℕ) (l : List ℕ) → c ≡ base + k → k < length ls → Adds (item_of c fact) (items_from base (set ls k l)) (items_from base (set ls k (fact ∷ l)))
 added_from base c [] k fact l e low = absurd (omega arith)
 added_from base c (m ∷ ls) zero fact l e low =
     let here : c ≡ base = omega (arith, e) in
     let rest = items_from (suc base) ls in
-    subst (λ (b : ℕ). Adds (item_of b fact) (items_of base l ++ rest) (items_of base (l ++ fact ∷ []) ++ rest)) (sym here)
-    (subst (λ xs. Adds (item_of base fact) (items_of base l ++ rest) (xs ++ rest)) (sym (map-append (item_of base) l (fact ∷ [])))
-    (adds_back (items_of base l) (items_of base l ++ item_of base fact ∷ []) rest (item_of base fact) (adds_push (items_of base l) (item_of base fact))))
+    subst (λ (b : ℕ). Adds (item_of b fact) (items_of base l ++ rest) (items_of base (fact ∷ l) ++ rest)) (sym here)
+    (adds_first (items_of base l ++ rest) (item_of base fact))
 added_from base c (m ∷ ls) (suc k) fact l e low =
-    adds_front (items_of base m) (items_from (suc base) (set ls k l)) (items_from (suc base) (set ls k (l ++ fact ∷ []))) (item_of c fact) (added_from (suc base) c ls k fact l (omega (arith, e)) (omega arith))
+    adds_front (items_of base m) (items_from (suc base) (set ls k l)) (items_from (suc base) (set ls k (fact ∷ l))) (item_of c fact) (added_from (suc base) c ls k fact l (omega (arith, e)) (omega arith))
 
--- a fact is added to the list of a context
-pub pushed : (ls ms : List (List ℕ)) (c fact : ℕ) → c < length ls → ms ≡ set ls c (get_or ls c [] ++ fact ∷ []) → Adds (item_of c fact) (items_in ls) (items_in ms)
+-- a fact is put in front of those of a context
+pub pushed : (ls ms : List (List ℕ)) (c fact : ℕ) → c < length ls → ms ≡ set ls c (fact ∷ get_or ls c []) → Adds (item_of c fact) (items_in ls) (items_in ms)
 pushed ls ms c fact low is =
     subst (λ (xs : List (List ℕ)). Adds (item_of c fact) (items_in ls) (items_in xs)) (sym is)
-    (subst (λ (xs : List (List ℕ)). Adds (item_of c fact) (items_in xs) (items_in (set ls c (get_or ls c [] ++ fact ∷ [])))) (set-get_or ls c [])
+    (subst (λ (xs : List (List ℕ)). Adds (item_of c fact) (items_in xs) (items_in (set ls c (fact ∷ get_or ls c [])))) (set-get_or ls c [])
     (added_from 0 c ls c fact (get_or ls c []) (omega arith) low))
 
--- the last fact is taken out of it
-pub popped : (ls ms : List (List ℕ)) (c fact : ℕ) → c < length ls → ms ≡ set ls c (get_or ms c []) → get_or ls c [] ≡ get_or ms c [] ++ fact ∷ [] → Adds (item_of c fact) (items_in ms) (items_in ls)
+-- the first fact is taken out of it
+pub popped : (ls ms : List (List ℕ)) (c fact : ℕ) → c < length ls → ms ≡ set ls c (get_or ms c []) → get_or ls c [] ≡ fact ∷ get_or ms c [] → Adds (item_of c fact) (items_in ms) (items_in ls)
 popped ls ms c fact low is last =
-    let old : set ls c (get_or ms c [] ++ fact ∷ []) ≡ ls = ap (set ls c) (sym last) ∙ set-get_or ls c [] in
+    let old : set ls c (fact ∷ get_or ms c []) ≡ ls = ap (set ls c) (sym last) ∙ set-get_or ls c [] in
     subst (λ (xs : List (List ℕ)). Adds (item_of c fact) (items_in xs) (items_in ls)) (sym is)
     (subst (λ (xs : List (List ℕ)). Adds (item_of c fact) (items_in (set ls c (get_or ms c []))) (items_in xs)) old
     (added_from 0 c ls c fact (get_or ms c []) (omega arith) low))
@@ -73,8 +66,8 @@ pub set_others : (ls ms : List (List ℕ)) (c : ℕ) (l : List ℕ) → ms ≡ s
 set_others ls ms c l is d apart = ap (λ (xs : List (List ℕ)). list_at xs d) is ∙ get_or-set_other ls c d l [] apart
 
 -- where none is taken out, nothing changes
-pub unchanged : (ls ms : List (List ℕ)) (c : ℕ) → ms ≡ set ls c (get_or ms c []) → get_or ls c [] ≡ get_or ms c [] ++ [] → ms ≡ ls
-unchanged ls ms c is last = is ∙ ap (set ls c) (sym (append-nil (get_or ms c [])) ∙ sym last) ∙ set-get_or ls c []
+pub unchanged : (ls ms : List (List ℕ)) (c : ℕ) → ms ≡ set ls c (get_or ms c []) → get_or ls c [] ≡ get_or ms c [] → ms ≡ ls
+unchanged ls ms c is last = is ∙ ap (set ls c) (sym last) ∙ set-get_or ls c []
 
 -- ---- whose items wait
 

@@ -1,4 +1,5 @@
 pub mod Bag
+pub mod Chains
 pub mod Groups
 pub mod Order
 pub mod Waiting

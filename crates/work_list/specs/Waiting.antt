@@ -3,7 +3,6 @@ use Rattle.std.specs.Prelude.{◌≡◌, ◌⊎◌, ℕ, suc, ◌<◌, Bool, tru
 use Rattle.number_sets.specs.Members.{has}
 use Rattle.work_list.specs.declared.begun.Begun.{Begun}
 use Rattle.work_list.specs.declared.item.Item.{Item}
-use Rattle.work_list.specs.declared.groups.Groups.{Groups}
 use Rattle.work_list.specs.Groups.{Grouped}
 
 abbrev pub item_of : ℕ → ℕ → Item
@@ -47,5 +46,5 @@ pub record HaveRoom (lists : List (List ℕ)) (last : Option ℕ) (begun : List 
   pub room : (c : ℕ) → 0 < length (list_at lists c) → c < length begun
 
 -- what is seen of them
-abbrev pub grouped : Groups → Option ℕ → Begun → Grouped
-grouped groups last begun = record { items = items_in groups.lists.items; last = last; begun = begun.contexts.items }
+abbrev pub grouped : List (List ℕ) → Option ℕ → Begun → Grouped
+grouped groups last begun = record { items = items_in groups; last = last; begun = begun.contexts.items }

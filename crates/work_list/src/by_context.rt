@@ -18,10 +18,10 @@ use std::marker::Model;
 /// before that has had its turn. It is seen as its items, in no order that means anything, the context whose turn it is, and the
 /// contexts that have had theirs.
 /// A push and a pop take constant time on the whole, however many items and contexts there are. A pop takes no memory. A push hands the
-/// item back where memory is refused, or where a `usize` cannot count the items. Memory goes by the largest number of a context, 16
-/// bytes for each number up to it, and a byte that says whether it has had its turn; by the items, 4 bytes for each of a context's where
-/// they were more than three since it last had none; and by the contexts that wait, 4 bytes for each, and as many for each that it was
-/// led away from. Where one of these lists is full, it makes room for half as many more.
+/// item back where memory is refused, or where the items cannot be numbered by a `u32`. Memory goes by the largest number of a context, 4
+/// bytes for each number up to it, and a byte that says whether it has had its turn; by the items, 8 bytes for each of the most that
+/// waited at one time; and by the contexts that wait, 4 bytes for each, and as many for each that it was led away from. Where one of
+/// these lists is full, it makes room for half as many more.
 #[derive(Drop)]
 pub struct ByContext {
     /// The facts of each context.
@@ -45,7 +45,7 @@ impl Model for ByContext {
 
     ghost view = { λ b. grouped b.groups b.last b.begun };
 
-    ghost invariant = { λ b. AreStacked b.groups.lists.items b.stack.items b.last × (b.count ≡ length (items_in b.groups.lists.items)) × HaveRoom b.groups.lists.items b.last b.begun.contexts.items };
+    ghost invariant = { λ b. AreStacked b.groups b.stack.items b.last × (b.count ≡ length (items_in b.groups)) × HaveRoom b.groups b.last b.begun.contexts.items };
 }
 
 /// Whether it is the turn of the context.
@@ -69,13 +69,13 @@ fn push(
     last: Option<u32>,
     item: Item,
 ) -> Result<(), AllocError>
-    requires stacked { AreStacked groups.old.lists.items stack.old.items last }
-    requires room { HaveRoom groups.old.lists.items last begun.old.contexts.items }
-    ensures stacked { AreStacked groups.new.lists.items stack.new.items last }
-    ensures room { HaveRoom groups.new.lists.items last begun.new.contexts.items }
+    requires stacked { AreStacked groups.old stack.old.items last }
+    requires room { HaveRoom groups.old last begun.old.contexts.items }
+    ensures stacked { AreStacked groups.new stack.new.items last }
+    ensures room { HaveRoom groups.new last begun.new.contexts.items }
     ensures begun { HaveSame begun.old.contexts.items begun.new.contexts.items }
-    ensures ok { OnOk result (Adds item (items_in groups.old.lists.items) (items_in groups.new.lists.items)) }
-    ensures err { OnErr result (items_in groups.new.lists.items ≡ items_in groups.old.lists.items) }
+    ensures ok { OnOk result (Adds item (items_in groups.old) (items_in groups.new)) }
+    ensures err { OnErr result (items_in groups.new ≡ items_in groups.old) }
 {
     if is_last(last, item.context) || groups.has(item.context) {
         return groups.push(item);
@@ -89,10 +89,10 @@ fn push(
 
 /// The context on top of the stack of which any item waits, without those on top of it.
 fn next(groups: &Groups, stack: &mut Vec<u32>) -> Option<u32>
-    requires { AllStand groups.now.lists.items stack.old.items }
-    ensures waits { IfSome result (λ context. 0 < length (list_at groups.now.lists.items context)) }
-    ensures stacked { AreStacked groups.now.lists.items stack.new.items result }
-    ensures none { IfNone result (items_in groups.now.lists.items ≡ []) }
+    requires { AllStand groups.now stack.old.items }
+    ensures waits { IfSome result (λ context. 0 < length (list_at groups.now context)) }
+    ensures stacked { AreStacked groups.now stack.new.items result }
+    ensures none { IfNone result (items_in groups.now ≡ []) }
 {
     while let Some(context) = stack.pop() {
         if groups.has(context) {
@@ -105,11 +105,11 @@ fn next(groups: &Groups, stack: &mut Vec<u32>) -> Option<u32>
 /// Takes an item of the context whose turn it is, if there is one.
 #[inline(always)]
 fn take(groups: &mut Groups, last: Option<u32>) -> Option<Item>
-    ensures some { IfSome result (λ item. Adds item (items_in groups.new.lists.items) (items_in groups.old.lists.items)) }
+    ensures some { IfSome result (λ item. Adds item (items_in groups.new) (items_in groups.old)) }
     ensures context { IfSome result (λ item. last ≡ Some item.context) }
-    ensures fewer { (c : ℕ) → 0 < length (list_at groups.new.lists.items c) → 0 < length (list_at groups.old.lists.items c) }
-    ensures none { IfNone result ((c : ℕ) → last ≡ Some c → list_at groups.old.lists.items c ≡ []) }
-    ensures same { IfNone result (groups.new.lists.items ≡ groups.old.lists.items) }
+    ensures fewer { (c : ℕ) → 0 < length (list_at groups.new c) → 0 < length (list_at groups.old c) }
+    ensures none { IfNone result ((c : ℕ) → last ≡ Some c → list_at groups.old c ≡ []) }
+    ensures same { IfNone result (groups.new ≡ groups.old) }
 {
     groups.pop(last?)
 }
@@ -122,10 +122,10 @@ fn pop(
     begun: &mut Begun,
     last: &mut Option<u32>,
 ) -> Option<Item>
-    requires stacked { AreStacked groups.old.lists.items stack.old.items last.old }
-    requires room { HaveRoom groups.old.lists.items last.old begun.old.contexts.items }
-    ensures stacked { AreStacked groups.new.lists.items stack.new.items last.new }
-    ensures room { HaveRoom groups.new.lists.items last.new begun.new.contexts.items }
+    requires stacked { AreStacked groups.old stack.old.items last.old }
+    requires room { HaveRoom groups.old last.old begun.old.contexts.items }
+    ensures stacked { AreStacked groups.new stack.new.items last.new }
+    ensures room { HaveRoom groups.new last.new begun.new.contexts.items }
     ensures together { PopsTogether result (grouped groups.old last.old begun.old) (grouped groups.new last.new begun.new) }
 {
     if let Some(item) = take(groups, *last) {
@@ -139,8 +139,8 @@ fn pop(
 
 /// Puts the context whose turn it is on the stack, if any of its items waits. Fails where memory is refused.
 fn set_aside(groups: &Groups, stack: &mut Vec<u32>, last: Option<u32>) -> Result<(), AllocError>
-    requires { AreStacked groups.now.lists.items stack.old.items last }
-    ensures ok { OnOk result (AllStand groups.now.lists.items stack.new.items) }
+    requires { AreStacked groups.now stack.old.items last }
+    ensures ok { OnOk result (AllStand groups.now stack.new.items) }
     ensures err { OnErr result (stack.new.items ≡ stack.old.items) }
 {
     let Some(context) = last else {

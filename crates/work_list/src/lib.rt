@@ -8,6 +8,7 @@ mod groups;
 mod item;
 mod lifo;
 mod list;
+mod node;
 mod room;
 
 pub use by_context::ByContext;

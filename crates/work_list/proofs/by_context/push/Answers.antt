@@ -10,8 +10,8 @@ returns-then-is_last-clause-room c =
       | then-is_last-via-then-is_last w ↦ room_for begun c.args.item.context (c.requires.room.last_has c.args.item.context (search rules))
       | then-is_last-via-else-is_last+then-has w ↦ c.requires.room.room c.args.item.context (search rules)
     ] in
-    room_still c.args.groups.now.lists.items c.push.new.self.lists.items c.args.last begun c.args.item.context c.requires.room c.push.ensures.others low
+    room_still c.args.groups.now c.push.new.self c.args.last begun c.args.item.context c.requires.room c.push.ensures.others low
 
 pub returns-clause-stacked : goal.returns-clause-stacked
 returns-clause-stacked c =
-    stacked_more c.args.groups.now.lists.items c.push-2.new.self.lists.items c.make_room.new.list.items c.push_reserved.new.self.items c.args.last c.args.item.context (search rules) c.push-2.ensures.others c.push_reserved.ensures.items
+    stacked_more c.args.groups.now c.push-2.new.self c.make_room.new.list.items c.push_reserved.new.self.items c.args.last c.args.item.context (search rules) c.push-2.ensures.others c.push_reserved.ensures.items

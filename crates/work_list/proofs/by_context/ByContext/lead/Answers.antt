@@ -5,5 +5,5 @@ use Rattle.work_list.proofs.by_context.ByContext.lead.Goals as goal
 
 pub returns : goal.returns
 returns c =
-    let some : 0 < length (list_at c.self.inside.groups.lists.items c.args.context) = search rules in
-    (rw (← c.self.view_is) refl, refl, has_item c.self.inside.groups.lists.items c.args.context some, c.requires, rw (← c.self.view_is) c.add.ensures.begins)
+    let some : 0 < length (list_at c.self.inside.groups c.args.context) = search rules in
+    (rw (← c.self.view_is) refl, refl, has_item c.self.inside.groups c.args.context some, c.requires, rw (← c.self.view_is) c.add.ensures.begins)
