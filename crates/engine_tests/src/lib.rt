@@ -36,6 +36,8 @@ mod led;
 #[cfg(test)]
 mod listed_facts;
 #[cfg(test)]
+mod listed_forms;
+#[cfg(test)]
 mod lists;
 #[cfg(test)]
 mod loops;

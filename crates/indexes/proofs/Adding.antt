@@ -1,5 +1,6 @@
 -- Lists by context, as they grow.
-use Rattle.std.proofs.Common.{◌≡◌, ℕ, inl, inr, ⊎_elim, List, Contains, refl, sym, ap, subst}
+use Rattle.std.proofs.Common.{◌≡◌, ℕ, zero, suc, ◌+◌, ◌<◌, inl, inr, ⊎_elim, List, [], ◌∷◌, length, get_or, Contains, refl, sym, ap, subst, ◌∙◌, arith}
+use Rattle.std.proofs.lemmas.List.{get_or_push, length_push}
 use Rattle.std.proofs.lemmas.List.Elements.{Contains-push}
 use Rattle.axioms.specs.declared.ids.ExprId.{ExprId}
 use Rattle.axioms.specs.declared.ids.IndId.{IndId}
@@ -77,3 +78,18 @@ listed has old new x number fact adds ends h = record {
 
 pub here : (old new : ByContext) (x : Context) (number : ℕ) → AddsAt old new x number → (y : Context) → x ≡ y → Contains (at_context new y) number
 here old new x number adds y e = (adds y number).1 (inr (sym e, refl))
+
+-- ---- the last number of a list
+
+pub is_last_from : (list : List ℕ) (number k : ℕ) → length list ≡ k + 1 → get_or list k 0 ≡ number → IsLast list number
+is_last_from [] number k long e = absurd (omega (arith, long))
+is_last_from (x ∷ []) number zero long e = ([], ap (λ (y : ℕ). y ∷ []) e)
+is_last_from (x ∷ []) number (suc k) long e = absurd (omega (arith, long))
+is_last_from (x ∷ y ∷ list) number zero long e = absurd (omega (arith, long))
+is_last_from (x ∷ y ∷ list) number (suc k) long e = (let r = is_last_from (y ∷ list) number k (omega (arith, long)) e in (x ∷ r.0, ap (λ (zs : List ℕ). x ∷ zs) r.1))
+
+pub last_is : (list : List ℕ) (number k : ℕ) → length list ≡ k + 1 → IsLast list number → get_or list k 0 ≡ number
+last_is list number k long last = ap (λ (l : List ℕ). get_or l k 0) last.1 ∙ get_or_push last.0 number 0 k (omega (arith, long, ap length last.1, length_push last.0 number))
+
+pub last_has : (list : List ℕ) (number : ℕ) → IsLast list number → 0 < length list
+last_has list number last = omega (arith, ap length last.1, length_push last.0 number)

@@ -14,3 +14,4 @@ pub mod Paths
 pub mod Grouping
 pub mod Order
 pub mod Keyed
+pub mod Led

@@ -23,7 +23,7 @@ in_piece xs i j q x low high at =
     let e : i + (q - i) ≡ q = omega (arith, low) in
     Contains-from_slice_get _ (q - i) x (take_slice_get (j - i) (drop i xs) (q - i) x (omega (arith, low, high)) (dropped i xs (q - i) ∙ ap (slice_get xs) e ∙ at))
 
-from_piece : {X : Type 0} (xs : List X) (i j : ℕ) (x : X) → Contains (take (j - i) (drop i xs)) x → (q : ℕ) × (i ≤ q) × (q < j) × (slice_get xs q ≡ Some x)
+pub from_piece : {X : Type 0} (xs : List X) (i j : ℕ) (x : X) → Contains (take (j - i) (drop i xs)) x → (q : ℕ) × (i ≤ q) × (q < j) × (slice_get xs q ≡ Some x)
 from_piece xs i j x c =
     let k = slice_get-from_Contains _ x c in
     let w = slice_get_take (j - i) (drop i xs) k.0 x k.1 in

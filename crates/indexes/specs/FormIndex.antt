@@ -7,6 +7,8 @@ use Rattle.indexes.specs.declared.keys.Key.{Key}
 use Rattle.indexes.specs.declared.keys.Key.TheVariants.{Whole, Partial}
 use Rattle.indexes.specs.declared.key_lists.KeyLists.{KeyLists}
 use Rattle.indexes.specs.declared.roles.ByRole.{ByRole}
+use Rattle.indexes.specs.declared.listed_forms.ListedForms.{ListedForms}
+use Rattle.indexes.specs.ListedForms.{AreListedForms}
 use Rattle.indexes.specs.Roles.{ForEach}
 use Rattle.axioms.specs.declared.ids.ExprId.{ExprId}
 use Rattle.indexes.specs.declared.disjoint.Operand.{Operand}
@@ -72,7 +74,9 @@ pub record IsFormIndex (forms : List Form) (index : ByRole KeyLists) : Type 0 wh
   pub chains_in_order : AreInOrder forms index.chains
   pub denied_in_order : AreInOrder forms index.denied
 
--- .. and the operands are those of the lists of disjoint classes
-pub record IsIndexed (forms : List Form) (classes : List (List ExprId)) (operands : List Operand) (lists : ByRole KeyLists) : Type 0 where
+-- .. the operands are those of the lists of disjoint classes, and for each number by a class alone and by a filler its form stands there
+pub record IsIndexed (forms : List Form) (classes : List (List ExprId)) (operands : List Operand) (lists : ByRole KeyLists) (of_alone of_fillers : ListedForms) : Type 0 where
   pub listed : operands ≡ operands_from 0 classes
   pub index : IsFormIndex forms lists
+  pub alone : AreListedForms forms lists.alone of_alone
+  pub fillers : AreListedForms forms lists.fillers of_fillers

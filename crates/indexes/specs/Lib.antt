@@ -9,6 +9,7 @@ pub mod FormsUnderKeys
 pub mod Counts
 pub mod KeyFillings
 pub mod Lists
+pub mod ListedForms
 pub mod Disjoint
 pub mod Apart
 pub mod FormIndex

@@ -3,13 +3,13 @@ use Rattle.std.specs.Prelude.{◌≡◌, ℕ, zero, suc, ◌+◌, ◌-◌, ◌<�
 use Rattle.std.specs.List.Sorted.{IsNonDecreasing}
 use Rattle.indexes.specs.declared.lists.Filling.{Filling}
 
--- the list of a key: the numbers from where it starts up to where that of the next key does, and none where there is no next
-abbrev pub list_at : List ℕ → List ℕ → ℕ → List ℕ
-list_at starts numbers key = take (slice_index starts (key + 1) - slice_index starts key) (drop (slice_index starts key) numbers)
+-- the list of a key: what stands from where it starts up to where that of the next key does, and nothing where there is no next
+abbrev pub list_at : {X : Type 0} → List ℕ → List X → ℕ → List X
+list_at starts items key = take (slice_index starts (key + 1) - slice_index starts key) (drop (slice_index starts key) items)
 
--- no list starts behind the next, nor behind the end of the numbers
-abbrev pub IsWithin : List ℕ → List ℕ → Type 0
-IsWithin starts numbers = (key : ℕ) → key + 1 < length starts → (slice_index starts key ≤ slice_index starts (key + 1)) × (slice_index starts (key + 1) ≤ length numbers)
+-- no list starts behind the next, nor behind the end of what is listed
+abbrev pub IsWithin : {X : Type 0} → List ℕ → List X → Type 0
+IsWithin starts items = (key : ℕ) → key + 1 < length starts → (slice_index starts key ≤ slice_index starts (key + 1)) × (slice_index starts (key + 1) ≤ length items)
 
 -- where no list has a number, there is none
 abbrev pub AreAllListed : List ℕ → List ℕ → Type 0

@@ -14,11 +14,13 @@ pub struct ByContext {
 }
 
 /// Whether the number is the last of the list.
+#[inline(always)]
 fn is_last(list: &[u32], number: u32) -> bool
     ensures yes { result ≡ true → IsLast list.now number }
     ensures no { result ≡ false → IsLast list.now number → ⊥ }
 {
-    list.ends_with(&[number])
+    let length = list.len();
+    length > 0 && list[length - 1] == number
 }
 
 impl ByContext {
@@ -46,6 +48,7 @@ impl ByContext {
     }
 
     /// The list of a context.
+    #[inline(always)]
     pub fn of(&self, context: Context) -> &[u32]
         ensures { result.now ≡ at_context self.now context }
     {
@@ -56,6 +59,7 @@ impl ByContext {
     }
 
     /// Puts a number at the end of the list of a context. Fails where memory is refused; then each list is what it was.
+    #[inline(always)]
     fn put(&mut self, context: Context, number: u32) -> Result<(), AllocError>
         ensures ok { OnOk result (AddsAt self.old self.new context number) }
         ensures last { OnOk result (PutsLastAt self.old self.new context number) }
@@ -70,6 +74,7 @@ impl ByContext {
 
     /// Adds a number at the end of the list of a context, unless it is the last there. Fails where memory is refused; then each
     /// list is what it was.
+    #[inline(always)]
     pub fn add(&mut self, context: Context, number: u32) -> Result<(), AllocError>
         ensures ok { OnOk result (AddsAt self.old self.new context number) }
         ensures last { OnOk result (EndsAt self.old self.new context number) }

@@ -63,6 +63,7 @@ impl Index {
     }
 
     /// Facts that put a class into the context.
+    #[inline(always)]
     pub fn classes_in(&self, context: Context) -> &[u32]
         ensures { result.now ≡ at_context self.now.classes context }
     {
@@ -70,6 +71,7 @@ impl Index {
     }
 
     /// Edges from the context.
+    #[inline(always)]
     pub fn edges_from(&self, context: Context) -> &[u32]
         ensures { result.now ≡ at_context self.now.from context }
     {
@@ -77,6 +79,7 @@ impl Index {
     }
 
     /// Edges into the context.
+    #[inline(always)]
     pub fn edges_into(&self, context: Context) -> &[u32]
         ensures { result.now ≡ at_context self.now.into context }
     {
@@ -84,6 +87,7 @@ impl Index {
     }
 
     /// Those edges from the context that were added as second premises.
+    #[inline(always)]
     pub fn second_premises_from(&self, context: Context) -> &[u32]
         ensures { result.now ≡ at_context self.now.second_premises context }
     {
@@ -91,6 +95,7 @@ impl Index {
     }
 
     /// Those facts that put a class into the context that were added as fillers.
+    #[inline(always)]
     pub fn fillers_in(&self, context: Context) -> &[u32]
         ensures { result.now ≡ at_context self.now.fillers context }
     {

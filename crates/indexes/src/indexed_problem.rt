@@ -10,12 +10,14 @@ ghost use Rattle.normal_forms.specs.Apart.{no_lists};
 ghost use Rattle.facts.specs.Closure.{AreDisjointAt};
 ghost use Rattle.indexes.specs.Apart.{AreApart, IsApart, IsInList};
 ghost use Rattle.indexes.specs.FormsUnderKeys.{IsUnder};
+ghost use Rattle.indexes.specs.ListedForms.{AreLedBy};
 
 use crate::apart::Apart;
 use crate::disjoint::Disjointness;
 use crate::form_index::{listed, nothing_listed};
 use crate::key_lists::KeyLists;
 use crate::keys::Key;
+use crate::listed_forms::{ListedForm, ListedForms};
 use crate::lists::is_used;
 use crate::named::{key_of_class, key_of_property};
 use crate::overlap::common;
@@ -35,6 +37,10 @@ pub struct IndexedProblem {
     roots: Vec<Context>,
     disjoint: Disjointness,
     index: ByRole<KeyLists>,
+    /// The forms that are listed by the class that they need alone.
+    alone: ListedForms,
+    /// The restrictions that are listed by their fillers.
+    fillers: ListedForms,
 }
 
 /// All intersections that have a class, by the numbers of their forms, and the classes that lists of disjoint classes put apart from it.
@@ -58,6 +64,8 @@ impl Drop for IndexedProblem {
             roots: _,
             disjoint: _,
             index: _,
+            alone: _,
+            fillers: _,
         } = self;
     }
 }
@@ -70,7 +78,7 @@ impl Model for IndexedProblem {
 
     ghost view = { λ p. record { forms = p.forms; apart = p.apart; roots = p.roots.items } };
 
-    ghost invariant = { λ p. IsIndexed p.forms p.apart.classes p.disjoint p.index };
+    ghost invariant = { λ p. IsIndexed p.forms p.apart.classes p.disjoint p.index p.alone p.fillers };
 }
 
 /// The contexts of the first list, and then those of the second.
@@ -97,6 +105,8 @@ impl IndexedProblem {
             roots: Vec::new(alloc),
             disjoint: Disjointness::new(alloc),
             index: nothing_listed(alloc),
+            alone: ListedForms::new(alloc),
+            fillers: ListedForms::new(alloc),
         }
     }
 
@@ -135,6 +145,8 @@ impl IndexedProblem {
         }
         let disjoint = Disjointness::of(alloc, &apart.classes)?;
         let index = listed(alloc, &forms)?;
+        let alone = ListedForms::of(alloc, &forms, &index.alone)?;
+        let fillers = ListedForms::of(alloc, &forms, &index.fillers)?;
         Ok(IndexedProblem {
             alloc,
             forms,
@@ -142,6 +154,8 @@ impl IndexedProblem {
             roots,
             disjoint,
             index,
+            alone,
+            fillers,
         })
     }
 
@@ -193,6 +207,14 @@ impl IndexedProblem {
         ensures { (n : ℕ) → Contains result.now n ↔ IsUnder by_alone self.now.forms (class_key class) n }
     {
         self.index.alone.of(key_of_class(class))
+    }
+
+    /// The forms that need that class alone, with what they lead to: in the order of their numbers, as `alone` lists them.
+    #[inline(always)]
+    pub fn led_alone(&self, class: Class2) -> &[ListedForm]
+        ensures { AreLedBy by_alone self.now.forms (class_key class) result.now }
+    {
+        self.alone.at(&self.index.alone, key_of_class(class))
     }
 
     /// Whether an intersection has that first class.
@@ -265,6 +287,15 @@ impl IndexedProblem {
         ensures { (n : ℕ) → Contains result.now n ↔ IsUnder by_filler self.now.forms (class_key class) n }
     {
         self.index.fillers.of(key_of_class(class))
+    }
+
+    /// The restrictions that need that class at the target of an edge, with what they lead to: in the order in which `with_filler` lists
+    /// them.
+    #[inline(always)]
+    pub fn led_by_filler(&self, class: Class2) -> &[ListedForm]
+        ensures { AreLedBy by_filler self.now.forms (class_key class) result.now }
+    {
+        self.fillers.at(&self.index.fillers, key_of_class(class))
     }
 
     /// The restrictions of that property that need that class at the target of an edge.

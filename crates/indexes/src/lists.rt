@@ -54,6 +54,19 @@ fn last_of(numbers: &[u32]) -> usize
     }
 }
 
+/// What the key has of what is listed.
+#[inline(always)]
+pub(crate) fn part<'a, T>(starts: &[u32], items: &'a [T], key: u32) -> &'a [T]
+    requires { IsWithin starts.now items.now }
+    ensures { result.now ≡ list_at starts.now items.now key }
+{
+    let next = key as usize + 1;
+    if next >= starts.len() {
+        return &[];
+    }
+    &items[starts[next - 1] as usize..starts[next] as usize]
+}
+
 /// Whether there is any number.
 pub(crate) fn is_used(list: &[u32]) -> bool
     ensures some { result ≡ true → (n : ℕ) × Contains list.now n }
@@ -158,10 +171,6 @@ impl Lists {
     pub(crate) fn of(&self, key: u32) -> &[u32]
         ensures { result.now ≡ list_at self.now.starts.items self.now.numbers.items key }
     {
-        let next = key as usize + 1;
-        if next >= self.starts.len() {
-            return &[];
-        }
-        &self.numbers[self.starts[next - 1] as usize..self.starts[next] as usize]
+        part(&self.starts, &self.numbers, key)
     }
 }

@@ -28,6 +28,7 @@ impl Model for Table {
 }
 
 /// The list that the number stands for.
+#[inline(always)]
 fn listed(lists: &[NumberList], number: u32) -> &[u32]
     ensures { result.now ≡ list_of lists.now number }
 {
@@ -156,7 +157,7 @@ fn shorten(list: &mut NumberList, length: usize)
     ensures { list.new ≡ take length list.old }
 {
     while list.len() > length {
-        let _ = list.pop();
+        list.pop();
     }
 }
 
@@ -222,6 +223,7 @@ impl Table {
     }
 
     /// The list of the key.
+    #[inline(always)]
     pub fn of(&self, key: usize) -> &[u32]
         ensures { result.now ≡ at self.now key }
     {

@@ -10,8 +10,10 @@ pub mod Giving
 pub mod Intersections
 pub mod Parting
 pub mod Visiting
+pub mod Leading
 pub mod Edges
 pub mod Below
 pub mod Meeting
 pub mod Restrictions
 pub mod Marking
+pub mod Flagging

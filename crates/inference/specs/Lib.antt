@@ -10,3 +10,5 @@ pub mod Marks
 pub mod Joins
 pub mod Partings
 pub mod Differences
+pub mod Flags
+pub mod Led

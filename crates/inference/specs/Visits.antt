@@ -120,6 +120,10 @@ IsChainingDrawn k older facts = (p q : PropId2) → chained_properties older ≡
 abbrev pub HaveAllVisited : Problem → List Fact → List ℕ → Type 0
 HaveAllVisited k older numbers = (n : ℕ) (form : Form) (f : Fact) → slice_get k.forms n ≡ Some form → by_chain form ≡ None → by_filler form ≡ None → Concludes k form older f → Contains numbers n
 
+-- what the forms, but chains and restrictions, give from these facts is there
+abbrev pub AreOthersDrawn : Problem → List Fact → List Fact → Type 0
+AreOthersDrawn k older facts = (n : ℕ) (form : Form) (f : Fact) → slice_get k.forms n ≡ Some form → by_chain form ≡ None → by_filler form ≡ None → Concludes k form older f → Contains facts f
+
 -- the form at the place goes on
 abbrev pub GoesOnAt : List Form → ℕ → Type 0
 GoesOnAt forms n = (form : Form) → slice_get forms n ≡ Some form → GoesOn forms form

@@ -5,7 +5,7 @@ ghost use Rattle.facts.specs.Births.{numbers_of};
 ghost use Rattle.facts.specs.Closure.{IsLoop, thing};
 ghost use Rattle.facts.specs.declared.contexts.Context.{Context as Context2};
 ghost use Rattle.facts.specs.declared.contexts.Fact.TheVariants.{In};
-ghost use Rattle.inference.specs.Completeness.{AllDrawn, AreLoopsDrawn, HasEntry, IsContextAt, IsEntry};
+ghost use Rattle.inference.specs.Completeness.{AllDrawn, AreLoopsDrawn, HasEntry, IsContextAt, IsEntry, IsInItself};
 ghost use Rattle.inference.specs.Derivations.{IsDerived};
 ghost use Rattle.inference.specs.Draws.{Draws};
 
@@ -39,6 +39,18 @@ fn lacks_entry(facts: &KnownFacts, context: Context) -> bool
     match facts.find(Fact::In(THING, context)) {
         Some(number) => !is_entry(facts, number),
         None => false,
+    }
+}
+
+/// Keeps in mind that the context is entered, if it has an entry and memory is to be had.
+pub(crate) fn note_entered(facts: &mut KnownFacts, context: Context)
+    requires long { length facts.old.births ≡ length facts.old.facts }
+    requires top { Contains facts.old.facts (In thing context) }
+    requires itself { IsInItself context facts.old.facts }
+    ensures { facts.new ≡ facts.old }
+{
+    if !lacks_entry(facts, context) {
+        facts.flag_entered(context);
     }
 }
 

@@ -1,6 +1,7 @@
 //! The facts so far, and what gave them.
 ghost use Rattle.facts.specs.Births.{reason};
 ghost use Rattle.inference.specs.Derivations.{with_fact};
+ghost use Rattle.inference.specs.Flags.{HasEntryFacts};
 ghost use Rattle.inference.specs.Marks.{AreMarks, IsMark};
 ghost use Rattle.inference.specs.Visits.{IsBy};
 ghost use Rattle.facts.specs.declared.contexts.Fact.{Fact as Fact2};
@@ -8,8 +9,9 @@ ghost use Rattle.normal_forms.specs.declared.forms.PropId2.TheVariants as proper
 ghost use Rattle.inference.specs.declared.known_facts.Stop.TheVariants as stops;
 ghost use Rattle.std.specs.Prelude.{◌≡◌, ◌<◌, ◌^◌, Some, [], length, map, take, slice_get, Contains, Ok, IfOk, IfSome, IsNone, OnErr, false, true};
 
+use crate::context_flags::ContextFlags;
 use axioms::{Memory, PropId};
-use facts::{Birth, Fact, FactTable, StoredFact};
+use facts::{Birth, Context, Fact, FactTable, StoredFact};
 use normal_forms::PropId2;
 use std::alloc::Global;
 use std::hash::RandomState;
@@ -42,11 +44,14 @@ pub struct KnownFacts {
     births: Vec<Birth>,
     /// A mark of each of the first facts, by which the property of an edge is told without a look at the edge.
     marks: Vec<u16>,
+    /// Contexts that are known to have what is in each context.
+    entered: ContextFlags,
 }
 
 impl Model for KnownFacts {
     ghost use Rattle.facts.specs.Births.{reason};
     ghost use Rattle.inference.specs.Derivations.{Derived};
+    ghost use Rattle.inference.specs.Flags.{AreFlags};
     ghost use Rattle.inference.specs.Marks.{AreMarks};
     ghost use Rattle.std.specs.Prelude.{map};
 
@@ -54,7 +59,7 @@ impl Model for KnownFacts {
 
     ghost view = { λ s. record { facts = s.facts; births = map reason s.births.items } };
 
-    ghost invariant = { λ s. AreMarks s.facts s.marks.items };
+    ghost invariant = { λ s. AreMarks s.facts s.marks.items × AreFlags (record { facts = s.facts; births = map reason s.births.items }) s.entered };
 }
 
 /// The mark of a fact of which it tells nothing.
@@ -103,6 +108,7 @@ impl KnownFacts {
             facts: FactTable::new(alloc, state),
             births: Vec::new(alloc),
             marks: Vec::new(alloc),
+            entered: ContextFlags::new(alloc),
         }
     }
 
@@ -116,11 +122,12 @@ impl KnownFacts {
     {
         let births = copied(&self.births)?;
         let facts = self.facts.copy()?;
-        let marks = Vec::new(*self.marks.allocator());
+        let alloc = *self.births.allocator();
         Ok(KnownFacts {
             facts,
             births,
-            marks,
+            marks: Vec::new(alloc),
+            entered: ContextFlags::new(alloc),
         })
     }
 
@@ -177,6 +184,7 @@ impl KnownFacts {
             facts,
             births,
             marks: _,
+            entered: _,
         } = self;
         (facts.into_list(), births)
     }
@@ -223,6 +231,24 @@ impl KnownFacts {
         }
     }
 
+    /// Whether the context is known to have an entry, and to be in itself where it is an expression.
+    #[inline(always)]
+    pub(crate) fn knows_entered(&self, context: Context) -> bool
+        ensures { result ≡ true → HasEntryFacts self.now context }
+    {
+        self.entered.has(context)
+    }
+
+    /// Keeps in mind that the context has an entry, and is in itself where it is an expression, if memory is to be had.
+    pub(crate) fn flag_entered(&mut self, context: Context)
+        requires { HasEntryFacts self.old context }
+        ensures { self.new ≡ self.old }
+    {
+        if self.entered.add(context).is_err() {
+            return;
+        }
+    }
+
     /// Makes room for so many facts more of so many contexts at once, where memory is to be had; else room is made as they come.
     pub fn expect(&mut self, facts: usize, contexts: usize)
         ensures { self.new ≡ self.old }
@@ -240,5 +266,6 @@ impl KnownFacts {
         self.facts.truncate(len);
         self.births.truncate(len);
         self.marks.truncate(len);
+        self.entered.clear();
     }
 }

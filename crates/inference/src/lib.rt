@@ -3,11 +3,13 @@
 
 mod apart;
 mod conclusions;
+mod context_flags;
 mod differences;
 mod entries;
 mod filling;
 mod joins;
 mod known_facts;
+mod led;
 mod pairing;
 mod properties;
 mod rules;

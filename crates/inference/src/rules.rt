@@ -7,13 +7,15 @@ ghost use Rattle.property_closure.specs.PropertyClosures.{Has};
 ghost use Rattle.inference.specs.PropertyClosures.{IsClosureOf, IsClosureOf-prop};
 ghost use Rattle.inference.specs.Joins.{AreJoins, AreJoins-prop};
 ghost use Rattle.inference.specs.Completeness.{AreAt, AreEntered, IsContextAt, AllDrawn, AreConcluded, DrawnAt, DrawnUpToRedundancy, AreDrawnFrom, AreDrawn, IsDrawnFrom, IsEntered, IsInItself};
-ghost use Rattle.inference.specs.Visits.{AllChainsDrawn, AllRestrictionsDrawn, ChainsDrawn, IsBehind, IsChainingDrawn, IsFillingDrawn, filled_property};
+ghost use Rattle.inference.specs.Visits.{AllChainsDrawn, AllRestrictionsDrawn, AreOthersDrawn, ChainsDrawn, IsBehind, IsChainingDrawn, IsFillingDrawn, filled_property};
 ghost use Rattle.inference.specs.Sameness.{AreGroupsOf, AreGroupsOf-prop};
 ghost use Rattle.inference.specs.Entry.{HasBegun, IsDrawnAlone, LoopIsDrawn, LoopsAreDrawn};
 
 use crate::conclusions::{THING, carried_back, conclusion, condition_of, loop_at};
+use crate::entries::note_entered;
 use crate::joins::Joins;
 use crate::known_facts::{KnownFacts, Stop};
+use crate::led::class_alone;
 use crate::visits::{chained, filled, is_long, visited};
 use facts::{Birth, Context, Fact};
 use indexes::{Groups, IndexedProblem};
@@ -151,11 +153,11 @@ impl Rules<'_> {
         requires has { Has self.now.closure.now property }
         ensures { Draws self.now facts.old facts.new result (AllRestrictionsDrawn self.now.problem.now older.now facts.new.facts filler) }
     {
-        let listed = self.problem.with_filler(filler);
-        if is_long(listed, self.closure.supers(property)) {
+        let listed = self.problem.led_by_filler(filler);
+        if is_long(listed.len(), self.closure.supers(property)) {
             return self.draw_restrictions_of(facts, property, filler, numbers, older);
         }
-        self.draw_listed(facts, listed, numbers, older)?;
+        self.draw_all_led(facts, listed, numbers, older)?;
         Ok(())
     }
 
@@ -198,7 +200,7 @@ impl Rules<'_> {
         ensures { Draws self.now facts.old facts.new result (ChainsDrawn self.now.problem.now older.now facts.new.facts first) }
     {
         let listed = self.problem.chains_from(first);
-        if is_long(listed, self.closure.supers(second)) {
+        if is_long(listed.len(), self.closure.supers(second)) {
             return self.draw_chains_of(facts, first, second, numbers, older);
         }
         self.draw_listed(facts, listed, numbers, older)?;
@@ -265,6 +267,27 @@ impl Rules<'_> {
         Ok(())
     }
 
+    /// Adds what the forms, but chains and restrictions, give from the facts.
+    #[inline(always)]
+    fn draw_others(
+        &self,
+        facts: &mut KnownFacts,
+        numbers: &[u32],
+        older: &[Fact],
+    ) -> Result<(), Stop>
+        requires derived { IsDerived self.now.problem.now facts.old }
+        requires older { AreAt facts.old.facts numbers.now older.now }
+        ensures { Draws self.now facts.old facts.new result (AreOthersDrawn self.now.problem.now older.now facts.new.facts) }
+    {
+        match class_alone(older) {
+            Some(class) => {
+                self.draw_all_led(facts, self.problem.led_alone(class), numbers, older)?;
+            }
+            None => self.draw_listed(facts, visited(self.problem, older), numbers, older)?,
+        }
+        Ok(())
+    }
+
     /// Adds what all forms give from the facts, visiting those that are listed for them.
     #[inline(always)]
     fn draw_forms(
@@ -277,7 +300,7 @@ impl Rules<'_> {
         requires older { AreAt facts.old.facts numbers.now older.now }
         ensures { Draws self.now facts.old facts.new result (AreDrawn self.now.problem.now older.now facts.new.facts) }
     {
-        self.draw_listed(facts, visited(self.problem, older), numbers, older)?;
+        self.draw_others(facts, numbers, older)?;
         self.draw_filled(facts, numbers, older)?;
         self.draw_chained(facts, numbers, older)?;
         Ok(())
@@ -359,7 +382,12 @@ impl Rules<'_> {
     }
 
     /// Adds what is in each context to one that the facts make a context, but for the loops that are drawn when its entry is served.
-    fn enter(&self, facts: &mut KnownFacts, context: Context, numbers: &[u32]) -> Result<(), Stop>
+    fn put_entry(
+        &self,
+        facts: &mut KnownFacts,
+        context: Context,
+        numbers: &[u32],
+    ) -> Result<(), Stop>
         requires derived { IsDerived self.now.problem.now facts.old }
         requires context { IsContextAt self.now.problem.now facts.old.facts numbers.now context }
         ensures { Draws self.now facts.old facts.new result (IsEntered self.now.problem.now context facts.new) }
@@ -368,6 +396,21 @@ impl Rules<'_> {
         self.add(facts, top, 1, numbers, None)?;
         self.enter_itself(facts, context, numbers)?;
         self.draw_missing_loops(facts, context, numbers)?;
+        Ok(())
+    }
+
+    /// Adds what is in each context to one that the facts make a context, but for the loops that are drawn when its entry is served.
+    /// Where it is known to be there, nothing is looked up.
+    fn enter(&self, facts: &mut KnownFacts, context: Context, numbers: &[u32]) -> Result<(), Stop>
+        requires derived { IsDerived self.now.problem.now facts.old }
+        requires context { IsContextAt self.now.problem.now facts.old.facts numbers.now context }
+        ensures { Draws self.now facts.old facts.new result (IsEntered self.now.problem.now context facts.new) }
+    {
+        if facts.knows_entered(context) {
+            return Ok(());
+        }
+        self.put_entry(facts, context, numbers)?;
+        note_entered(facts, context);
         Ok(())
     }
 

@@ -58,9 +58,9 @@ pub(crate) fn filled(older: &[Fact]) -> Option<(PropId2, Class2)>
     }
 }
 
-/// Whether it is less to look up the forms of each of the properties than to go over the list.
-pub(crate) fn is_long(list: &[u32], properties: &[PropId2]) -> bool {
-    list.len() / 4 > properties.len()
+/// Whether it is less to look up the forms of each of the properties than to go over so many that are listed.
+pub(crate) fn is_long(listed: usize, properties: &[PropId2]) -> bool {
+    listed / 4 > properties.len()
 }
 
 /// The forms that deny a pair of these contexts, where they are individuals.

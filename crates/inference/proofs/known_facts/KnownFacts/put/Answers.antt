@@ -1,4 +1,7 @@
-use Rattle.std.proofs.Common.{Ok, ap}
+use Rattle.std.proofs.Common.{◌≡◌, ◌++◌, ◌∷◌, [], Ok, map, ap}
+use Rattle.std.proofs.lemmas.List.{map-append}
+use Rattle.facts.specs.Births.{reason}
+use Rattle.inference.proofs.Flagging.{flags_of_more}
 use Rattle.inference.proofs.Lists.{keeps_push}
 use Rattle.inference.proofs.Marking.{marks_of_more}
 use Rattle.inference.proofs.known_facts.KnownFacts.put.Goals as goal
@@ -6,4 +9,8 @@ use Rattle.inference.proofs.known_facts.KnownFacts.put.Goals as goal
 pub invariant_of-self-then-is_new : goal.invariant_of-self-then-is_new
 invariant_of-self-then-is_new c =
     let pushed = (c.in_ok-is_new.ensures.yes (ap Ok c.if-is_new.true)).1 in
-    marks_of_more c.self.inside.facts c.insert.new.self c.self.inside.marks.items (rw pushed (keeps_push c.self.inside.facts c.args.fact)) c.self.invariant
+    let before = c.self.inside in
+    let births : map reason c.push_reserved.new.self.items ≡ map reason before.births.items ++ reason c.args.birth ∷ [] = cc (c.push_reserved.ensures.items, c.reserve.ensures.items, map-append reason before.births.items (c.args.birth ∷ [])) in (
+      marks_of_more before.facts c.insert.new.self before.marks.items (rw pushed (keeps_push before.facts c.args.fact)) c.self.invariant.0,
+      rw (pushed, births) (flags_of_more (record { facts = before.facts; births = map reason before.births.items }) c.args.fact (reason c.args.birth) before.entered c.self.invariant.1),
+    )

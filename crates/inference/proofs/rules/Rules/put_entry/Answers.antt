@@ -1,7 +1,7 @@
 use Rattle.facts.specs.Closure.{in_thing}
 use Rattle.inference.proofs.Growth.{grows_trans, there_still}
 use Rattle.inference.proofs.Drawing.{context_still, draws}
-use Rattle.inference.proofs.rules.Rules.enter.Goals as goal
+use Rattle.inference.proofs.rules.Rules.put_entry.Goals as goal
 
 pub add-requires-clause-birth : goal.add-requires-clause-birth
 add-requires-clause-birth c = (c.requires.context.0, c.requires.context.1, in_thing c.requires.context.2)
