@@ -1,19 +1,25 @@
 -- Pairs that are added one by one.
-use Rattle.std.proofs.Common.{◌≡◌, ◌↔◌, ℕ, ◌+◌, ◌<◌, ◌≤◌, inl, inr, List, [], ◌∷◌, ◌++◌, length, get_or, take, Contains, slice_get, Some, refl, sym, ap, ap₂, ◌∙◌, subst}
-use Rattle.std.proofs.lemmas.List.Elements.{Contains-append_left, Contains-push, Contains-push_cases}
+use Rattle.std.proofs.Common.{◌≡◌, ◌↔◌, ℕ, ◌+◌, ◌/◌, ◌%◌, ◌^◌, ◌<◌, ◌≤◌, inl, inr, List, [], ◌∷◌, ◌++◌, length, get_or, replicate, take, Contains, slice_get, Some, refl, sym, ap, ap₂, ◌∙◌, subst, arith}
+use Rattle.std.proofs.lemmas.Bool.{cases_lt}
+use Rattle.std.proofs.lemmas.List.{set_past}
+use Rattle.std.specs.Prelude.{slice_set}
 use Rattle.lemmas.proofs.Members.{Contains-none}
 use Rattle.axioms.specs.WellFormedness.{AreDistinct}
 use Rattle.axioms.specs.declared.ids.PropId.{PropId}
 use Rattle.normal_forms.specs.declared.forms.PropId2.{PropId2}
 use Rattle.normal_forms.specs.declared.forms.PropId2.TheVariants.{Property}
 use Rattle.property_closure.specs.PropertyClosures.{Known}
-use Rattle.number_sets.proofs.Members.{all_taken, none_taken, one_more_taken}
+use Rattle.number_sets.specs.Pieces.{list_at}
+use Rattle.number_sets.proofs.Members.{all_taken, list_at_none, none_taken, one_more_item, one_more_taken}
 use Rattle.facts.specs.declared.contexts.Context as code
 use Rattle.facts.specs.declared.contexts.Fact.{Fact}
 use Rattle.facts.specs.declared.contexts.Fact.TheVariants.{Edge}
 use Rattle.closure.specs.Closure.{Context}
 use Rattle.closure.specs.Denotations.{context_of}
 use Rattle.countermodel.specs.declared.pair.Pair.{Pair}
+use Rattle.countermodel.specs.declared.pair.PairRange.{PairRange}
+use Rattle.countermodel.specs.Ranges.{IsWithin, Within}
+use Rattle.countermodel.specs.Keys.{HasPair, pair_at}
 use Rattle.countermodel.specs.Edges.{AddsPairs, IsAboveIn, IsGiven, IsGivenBy, IsSuper, IsWith}
 
 -- the pair q with a property of the list
@@ -25,7 +31,7 @@ triple r x y = record { property = r; source = x; target = y }
 
 -- ---- the pair with one property
 
-pub not_with : (W : Pair → Type 0) (r : PropId2) (p : Pair) (old : List Pair) → ((id : PropId) → r ≡ Property id → ⊥) → AddsPairs (λ q. IsWith r p q × W q) old old
+pub not_with : (W : Pair → Type 0) (r : PropId2) (p : Pair) (old : List (List ℕ)) → ((id : PropId) → r ≡ Property id → ⊥) → AddsPairs (λ q. IsWith r p q × W q) old old
 not_with W r p old other q = (λ c. inl c, λ h. elim h [ inl was ↦ was | inr (is, w) ↦ absurd (other q.property is.0) ])
 
 same_triple : (r : PropId2) (id : PropId) (p q : Pair) → r ≡ Property id → IsWith r p q → q ≡ triple id p.source p.target
@@ -34,27 +40,40 @@ same_triple r id p q e (is, s, t) =
     let name : q.property ≡ id = cc in
     ap (λ (i : PropId). triple i q.source q.target) name ∙ ap₂ (λ (x y : ℕ). triple id x y) s t
 
-pub is_with : (W : Pair → Type 0) (r : PropId2) (id : PropId) (p : Pair) (old : List Pair) → r ≡ Property id → W (triple id p.source p.target)
-    → AddsPairs (λ q. IsWith r p q × W q) old (old ++ triple id p.source p.target ∷ [])
-is_with W r id p old e w q =
-    let new = triple id p.source p.target in (
-      λ c. elim (Contains-push_cases old new q c) [
-        | inl h ↦ inl h
-        | inr same ↦ inr ((e ∙ ap (λ (u : Pair). Property u.property) same, sym (ap (λ (u : Pair). u.source) same), sym (ap (λ (u : Pair). u.target) same)), subst W same w)
-      ],
-      λ h. elim h [
-        | inl was ↦ Contains-append_left old (new ∷ []) q was
-        | inr (is, _) ↦ subst (Contains (old ++ new ∷ [])) (sym (same_triple r id p q e is)) (Contains-push old new)
-      ],
-    )
-
-pub is_without : (W : Pair → Type 0) (r : PropId2) (id : PropId) (p : Pair) (old : List Pair) → r ≡ Property id → (W (triple id p.source p.target) → ⊥) → AddsPairs (λ q. IsWith r p q × W q) old old
+pub is_without : (W : Pair → Type 0) (r : PropId2) (id : PropId) (p : Pair) (old : List (List ℕ)) → r ≡ Property id → (W (triple id p.source p.target) → ⊥) → AddsPairs (λ q. IsWith r p q × W q) old old
 is_without W r id p old e never q = (λ c. inl c, λ h. elim h [ inl was ↦ was | inr (is, w) ↦ absurd (never (subst W (same_triple r id p q e is) w)) ])
+
+-- the pair's number in the list of its property
+module _ (W : Pair → Type 0) (r : PropId2) (id : PropId) (p : Pair) (key : ℕ) (old : List (List ℕ)) (e : r ≡ Property id) (at_source : key / 2 ^ 32 ≡ p.source) (at_target : key % 2 ^ 32 ≡ p.target) where
+  keyed : pair_at id.0 key ≡ triple id p.source p.target
+  keyed = ap₂ (λ (x y : ℕ). triple id x y) at_source at_target
+
+  pub is_with : id.0 < length old → W (triple id p.source p.target) → AddsPairs (λ q. IsWith r p q × W q) old (slice_set old id.0 (list_at old id.0 ++ key ∷ []))
+  is_with low w q = (
+    λ (j, c, same). elim ((one_more_item old id.0 key q.property.0 j low).0 c) [
+      | inl was ↦ inl (j, was, same)
+      | inr (at, is) ↦ inr (subst (λ (u : Pair). IsWith r p u × W u) (sym (sym same ∙ (ap₂ pair_at at is ∙ keyed))) ((e, refl, refl), w))
+    ],
+    λ h. elim h [
+      | inl (j, c, same) ↦ (j, (one_more_item old id.0 key q.property.0 j low).1 (inl c), same)
+      | inr (is, _) ↦ subst (HasPair (slice_set old id.0 (list_at old id.0 ++ key ∷ []))) (sym (same_triple r id p q e is)) (key, (one_more_item old id.0 key id.0 key low).1 (inr (refl, refl)), keyed)
+    ],
+  )
+
+pub put : (range : PairRange) (r : PropId2) (id : PropId) (p : Pair) (key : ℕ) (old : List (List ℕ)) (place : ℕ) (now : List (List ℕ)) → r ≡ Property id → key / 2 ^ 32 ≡ p.source → key % 2 ^ 32 ≡ p.target → place ≡ id.0
+    → now ≡ slice_set old place (list_at old place ++ key ∷ []) → IsWithin range (triple id p.source p.target) → AddsPairs (Within (length old) range (IsWith r p)) old now
+put range r id p key old place now e at_source at_target at is within =
+    let W : Pair → Type 0 = λ q. IsWithin range q × (q.property.0 < length old) in
+    let there : now ≡ slice_set old id.0 (list_at old id.0 ++ key ∷ []) = is ∙ ap (λ (i : ℕ). slice_set old i (list_at old i ++ key ∷ [])) at in
+    subst (AddsPairs (Within (length old) range (IsWith r p)) old) (sym there) (elim (cases_lt id.0 (length old)) [
+      | inl low ↦ is_with W r id p key old e at_source at_target low (within, low)
+      | inr past ↦ subst (AddsPairs (Within (length old) range (IsWith r p)) old) (sym (set_past old id.0 (list_at old id.0 ++ key ∷ []) past)) (is_without W r id p old e (λ w. omega (arith, past, w.1)))
+    ])
 
 -- ---- those of a list of properties
 
 module _ (W : Pair → Type 0) (list : List PropId2) (p : Pair) where
-  pub one_above : (k : ℕ) (d : PropId2) (old now new : List Pair) → k < length list → AddsPairs (λ q. IsWith (get_or list k d) p q × W q) now new
+  pub one_above : (k : ℕ) (d : PropId2) (old now new : List (List ℕ)) → k < length list → AddsPairs (λ q. IsWith (get_or list k d) p q × W q) now new
       → AddsPairs (λ q. IsListedAbove (take k list) p q × W q) old now → AddsPairs (λ q. IsListedAbove (take (k + 1) list) p q × W q) old new
   one_above k d old now new low adds before q =
       let more' = one_more_taken list k d (Property q.property) low in (
@@ -74,10 +93,10 @@ module _ (W : Pair → Type 0) (list : List PropId2) (p : Pair) where
         ],
       )
 
-  pub none_above : (old : List Pair) → AddsPairs (λ q. IsListedAbove (take 0 list) p q × W q) old old
+  pub none_above : (old : List (List ℕ)) → AddsPairs (λ q. IsListedAbove (take 0 list) p q × W q) old old
   none_above old q = (λ c. inl c, λ h. elim h [ inl was ↦ was | inr h' ↦ absurd (none_taken list (Property q.property) h'.0.0) ])
 
-  pub all_above : (k : Known) (n : ℕ) (old new : List Pair) → length list ≤ n → ((q : PropId2) → Contains list q ↔ IsSuper k (Property p.property) q)
+  pub all_above : (k : Known) (n : ℕ) (old new : List (List ℕ)) → length list ≤ n → ((q : PropId2) → Contains list q ↔ IsSuper k (Property p.property) q)
       → AddsPairs (λ q. IsListedAbove (take n list) p q × W q) old new → AddsPairs (λ q. IsAboveIn k p q × W q) old new
   all_above k n old new past exact adds q =
       let all' = all_taken list n (Property q.property) past in
@@ -89,10 +108,10 @@ module _ (W : Pair → Type 0) (list : List PropId2) (p : Pair) where
 -- ---- facts
 
 module _ (W : Pair → Type 0) (k : Known) (elements : List Context) where
-  pub no_element : (fact : Fact) (old : List Pair) → ((p : Pair) → IsGivenBy k elements fact p → ⊥) → AddsPairs (λ p. IsGivenBy k elements fact p × W p) old old
+  pub no_element : (fact : Fact) (old : List (List ℕ)) → ((p : Pair) → IsGivenBy k elements fact p → ⊥) → AddsPairs (λ p. IsGivenBy k elements fact p × W p) old old
   no_element fact old never p = (λ c. inl c, λ h. elim h [ inl was ↦ was | inr (by, _) ↦ absurd (never p by) ])
 
-  pub of_edge : (x y : code.Context) (id : PropId) (source target : ℕ) (old new : List Pair) → AreDistinct elements
+  pub of_edge : (x y : code.Context) (id : PropId) (source target : ℕ) (old new : List (List ℕ)) → AreDistinct elements
       → slice_get elements source ≡ Some (context_of x) → slice_get elements target ≡ Some (context_of y)
       → AddsPairs (λ q. IsAboveIn k (triple id source target) q × W q) old new → AddsPairs (λ q. IsGivenBy k elements (Edge x (Property id) y) q × W q) old new
   of_edge x y id source target old new apart at_source at_target adds p = (
@@ -106,11 +125,14 @@ module _ (W : Pair → Type 0) (k : Known) (elements : List Context) where
     ],
   )
 
-  pub none_given : (facts : List Fact) (p : Pair) → Contains [] p ↔ (IsGiven k elements (take 0 facts) p × W p)
-  none_given facts p = (λ c. absurd (Contains-none p c), λ h. absurd (none_taken facts h.0.0 h.0.1))
+  pub none_given : (n : ℕ) (facts : List Fact) (p : Pair) → HasPair (replicate n []) p ↔ (IsGiven k elements (take 0 facts) p × W p)
+  none_given n facts p = (
+    λ (key, c, _). absurd (Contains-none key (subst (λ (l : List ℕ). Contains l key) (list_at_none n p.property.0) c)),
+    λ h. absurd (none_taken facts h.0.0 h.0.1),
+  )
 
-  pub more_given : (facts : List Fact) (n : ℕ) (d : Fact) (old new : List Pair) → n < length facts → ((p : Pair) → Contains old p ↔ (IsGiven k elements (take n facts) p × W p))
-      → AddsPairs (λ p. IsGivenBy k elements (get_or facts n d) p × W p) old new → (p : Pair) → Contains new p ↔ (IsGiven k elements (take (n + 1) facts) p × W p)
+  pub more_given : (facts : List Fact) (n : ℕ) (d : Fact) (old new : List (List ℕ)) → n < length facts → ((p : Pair) → HasPair old p ↔ (IsGiven k elements (take n facts) p × W p))
+      → AddsPairs (λ p. IsGivenBy k elements (get_or facts n d) p × W p) old new → (p : Pair) → HasPair new p ↔ (IsGiven k elements (take (n + 1) facts) p × W p)
   more_given facts n d old new low before adds p = (
     λ c. elim ((adds p).0 c) [
       | inl was ↦ (let ((fact, there, by), w) = (before p).0 was in ((fact, (one_more_taken facts n d fact low).1 (inl there), by), w))

@@ -101,7 +101,7 @@ goes_below (Some end) from p forward before = through p from end before forward
 
 -- ---- two lists in order, one behind the other
 
-all_of_both : {X : Type 0} (R : X → X → Type 0) (xs ys : List X) → AllPairs R xs → AllPairs R ys → ((x y : X) → Contains xs x → Contains ys y → R x y) → AllPairs R (xs ++ ys)
+pub all_of_both : {X : Type 0} (R : X → X → Type 0) (xs ys : List X) → AllPairs R xs → AllPairs R ys → ((x y : X) → Contains xs x → Contains ys y → R x y) → AllPairs R (xs ++ ys)
 all_of_both R xs ys first second both = λ i j d l k.
     let long = length-append xs ys in
     elim (cases_lt j (length xs)) [

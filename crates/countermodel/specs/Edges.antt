@@ -1,5 +1,5 @@
 -- The pairs that edges give.
-use Rattle.std.specs.Prelude.{◌≡◌, ◌↔◌, ◌⊎◌, List, slice_get, Some}
+use Rattle.std.specs.Prelude.{◌≡◌, ◌↔◌, ◌⊎◌, ℕ, List, slice_get, Some}
 use Rattle.std.specs.List.{Contains}
 use Rattle.normal_forms.specs.declared.forms.PropId2.{PropId2}
 use Rattle.normal_forms.specs.declared.forms.PropId2.TheVariants.{Property, Partial}
@@ -9,6 +9,7 @@ use Rattle.facts.specs.declared.contexts.Fact.{Fact}
 use Rattle.facts.specs.declared.contexts.Fact.TheVariants.{In, Edge}
 use Rattle.closure.specs.Closure.{Context}
 use Rattle.closure.specs.Denotations.{context_of}
+use Rattle.countermodel.specs.Keys.{HasPair}
 use Rattle.countermodel.specs.declared.pair.Pair.{Pair}
 
 -- the pair q is p with that property in place of its own
@@ -33,6 +34,6 @@ IsGivenBy k elements (In a x) p = ⊥
 abbrev pub IsGiven : Known → List Context → List Fact → Pair → Type 0
 IsGiven k elements facts p = (fact : Fact) × Contains facts fact × IsGivenBy k elements fact p
 
--- what was there, and these
-abbrev pub AddsPairs : (Pair → Type 0) → List Pair → List Pair → Type 0
-AddsPairs adds old new = (p : Pair) → Contains new p ↔ (Contains old p ⊎ adds p)
+-- the lists have the pairs that they had, and these
+abbrev pub AddsPairs : (Pair → Type 0) → List (List ℕ) → List (List ℕ) → Type 0
+AddsPairs adds old new = (p : Pair) → HasPair new p ↔ (HasPair old p ⊎ adds p)

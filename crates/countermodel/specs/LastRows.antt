@@ -1,6 +1,6 @@
 -- Rows that grow pair by pair: a sink has all but the last.
-use Rattle.std.specs.Prelude.{◌≡◌, List, [], ◌∷◌, ◌++◌, map, Option, Some, None}
-use Rattle.std.specs.List.{AllPairs}
+use Rattle.std.specs.Prelude.{◌≡◌, ◌↔◌, List, [], ◌∷◌, ◌++◌, map, Option, Some, None}
+use Rattle.std.specs.List.{AllPairs, Contains}
 use Rattle.certificate.specs.View.{pair_row_of}
 use Rattle.certificate.specs.declared.listed.PairRow.{PairRow}
 use Rattle.countermodel.specs.Pairs.{AddsPair, AreGrouped, ComesBefore, Row}
@@ -33,3 +33,10 @@ pub record HasGrouped {S : Type 0} (adds : S → S → List PairRow → Type 0) 
 abbrev pub GroupsMore : {S : Type 0} → (S → S → List PairRow → Type 0) → List Pair → S → Option PairRow → S → Option PairRow → Type 0
 GroupsMore {S} adds pairs old last new row =
     (start : S) (earlier : List Pair) → AllPairs ComesBefore (earlier ++ pairs) → HasGrouped adds start old last earlier → HasGrouped adds start new row (earlier ++ pairs)
+
+-- .. with all pairs of which P holds behind them, in order
+pub record GroupsAll {S : Type 0} (adds : S → S → List PairRow → Type 0) (P : Pair → Type 0) (old : S) (last : Option PairRow) (new : S) (row : Option PairRow) : Type 0 where
+  pub pairs : List Pair
+  pub ascend : AllPairs ComesBefore pairs
+  pub are : (p : Pair) → Contains pairs p ↔ P p
+  pub grouped : GroupsMore adds pairs old last new row

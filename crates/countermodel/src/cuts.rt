@@ -1,12 +1,12 @@
 //! Where the pairs of a listing are cut into ranges.
 ghost use Rattle.axioms.specs.WellFormedness.{AreDistinct};
+ghost use Rattle.std.specs.Prelude.{◌≡◌, ◌≤◌, ◌^◌, IfOk, length};
 
-use crate::edges::add_fact;
-use crate::elements::Elements;
-use crate::pair::{Pair, PairRange, put_in_order};
+use crate::edges::{Edges, add_fact};
+use crate::keys::{keys_in_order, pair_with};
+use crate::pair::{Pair, PairRange};
 use axioms::{Memory, PropId};
-use facts::StoredFact;
-use property_closure::PropertyClosure;
+use number_sets::OpenLists;
 use std::alloc::Global;
 
 // The pairs of fewer facts are not cut: a list of them all takes little room, and each range goes over all facts again.
@@ -18,14 +18,10 @@ const SAMPLE: usize = 4096;
 // The pairs are cut into so many ranges.
 const RANGES: usize = 4;
 
-/// The pairs that every so many facts give, in any order.
-fn some_pairs(
-    alloc: Global,
-    closure: &PropertyClosure,
-    elements: &Elements,
-    facts: &[StoredFact],
-) -> Result<Vec<Pair>, Memory>
-    requires { AreDistinct elements.now }
+/// For each property the numbers of its pairs that every so many facts give, in any order.
+fn some_keys(edges: &Edges<'_>) -> Result<OpenLists<u64>, Memory>
+    requires { AreDistinct edges.now.elements.now }
+    ensures { IfOk result (λ lists. length lists ≡ edges.now.properties) }
 {
     let from = Pair {
         property: PropId(0),
@@ -33,30 +29,46 @@ fn some_pairs(
         target: 0,
     };
     let range = PairRange { from, end: None };
-    let mut pairs = Vec::new(alloc);
-    for some in facts.chunks(facts.len() / SAMPLE + 1) {
+    let mut keys = OpenLists::new(edges.alloc, edges.properties)?;
+    for some in edges.facts.chunks(edges.facts.len() / SAMPLE + 1) {
         if let Some(fact) = some.first() {
-            add_fact(&mut pairs, &range, closure, elements, fact.get())?;
+            add_fact(&mut keys, &range, edges.closure, edges.elements, fact.get())?;
         }
+    }
+    Ok(keys)
+}
+
+/// Adds the pairs of the property with these numbers.
+fn push_pairs(pairs: &mut Vec<Pair>, property: PropId, keys: &[u64]) -> Result<(), Memory> {
+    for key in keys {
+        pairs.push(pair_with(property, *key))?;
+    }
+    Ok(())
+}
+
+/// The pairs that the lists have, in order.
+fn pairs_in(alloc: Global, keys: &OpenLists<u64>) -> Result<Vec<Pair>, Memory>
+    requires { length keys.now ≤ 2 ^ 32 }
+{
+    let mut pairs = Vec::new(alloc);
+    for number in 0..keys.len() {
+        let list = keys_in_order(alloc, keys.at(number))?;
+        push_pairs(&mut pairs, PropId(number as u32), &list)?;
     }
     Ok(pairs)
 }
 
 /// Pairs between which some as many others stand, as far as some of the facts tell: none where there are few facts.
-pub(crate) fn cuts_of(
-    alloc: Global,
-    closure: &PropertyClosure,
-    elements: &Elements,
-    facts: &[StoredFact],
-) -> Result<Vec<Pair>, Memory>
-    requires { AreDistinct elements.now }
+pub(crate) fn cuts_of(edges: &Edges<'_>) -> Result<Vec<Pair>, Memory>
+    requires distinct { AreDistinct edges.now.elements.now }
+    requires few { edges.now.properties ≤ 2 ^ 32 }
 {
-    let mut cuts = Vec::new(alloc);
-    if facts.len() < MANY {
+    let mut cuts = Vec::new(edges.alloc);
+    if edges.facts.len() < MANY {
         return Ok(cuts);
     }
-    let mut pairs = some_pairs(alloc, closure, elements, facts)?;
-    put_in_order(&mut pairs);
+    let keys = some_keys(edges)?;
+    let pairs = pairs_in(edges.alloc, &keys)?;
     for part in 1..RANGES {
         if let Some(pair) = pairs.get(pairs.len() / RANGES * part) {
             cuts.push(*pair)?;

@@ -1,12 +1,14 @@
 //! Pairs in rows.
 ghost use Rattle.certificate.specs.View.{pair_row_of};
+ghost use Rattle.countermodel.specs.Keys.{pair_at};
 ghost use Rattle.countermodel.specs.LastRows.{AddsToLast, GroupsMore};
 ghost use Rattle.countermodel.specs.Pairs.{row_with};
-ghost use Rattle.std.specs.Prelude.{◌↔◌, ◌≡◌, ◌∷◌, [], IfOk, IsTrue};
+ghost use Rattle.std.specs.Prelude.{◌↔◌, ◌≡◌, ◌∷◌, [], IfOk, IsTrue, map};
 
+use crate::keys::pair_with;
 use crate::pair::Pair;
 use crate::sink::RowSink;
-use axioms::Memory;
+use axioms::{Memory, PropId};
 use certificate::{PairRow, Targets};
 use std::alloc::Global;
 
@@ -48,19 +50,21 @@ fn add_pair<S: RowSink<PairRow>>(
     Ok(row_of(pair))
 }
 
-/// Adds the rows of pairs that are in order to those of pairs that come before them, of which the last is not in the sink yet: but the
-/// last one, which it gives.
+/// Adds the rows of the pairs of the property with these numbers, which are in order, to those of pairs that come before them, of which
+/// the last is not in the sink yet: but the last one, which it gives.
 pub(crate) fn add_grouped<S: RowSink<PairRow>>(
     alloc: Global,
-    pairs: &[Pair],
+    property: PropId,
+    keys: &[u64],
     last: Option<PairRow>,
     rows: &mut S,
 ) -> Result<Option<PairRow>, Memory>
-    ensures { IfOk result (GroupsMore S.adds pairs.now rows.old last rows.new) }
+    ensures { IfOk result (GroupsMore S.adds (map (pair_at property.0) keys.now) rows.old last rows.new) }
 {
     let mut last = last;
-    for pair in pairs {
-        last = Some(add_pair(alloc, rows, last, *pair)?);
+    for key in keys {
+        let pair = pair_with(property, *key);
+        last = Some(add_pair(alloc, rows, last, pair)?);
     }
     Ok(last)
 }

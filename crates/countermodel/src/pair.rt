@@ -1,28 +1,17 @@
 //! Pairs of elements.
 ghost use Rattle.countermodel.specs.Pairs.{ComesBefore};
 ghost use Rattle.countermodel.specs.Ranges.{IsWithin};
-ghost use Rattle.countermodel.specs.declared.pair.Pair.{Pair as Pair2};
-ghost use Rattle.std.specs.List.{AllPairs};
-ghost use Rattle.std.specs.Prelude.{◌↔◌, Contains, IsTrue};
+ghost use Rattle.std.specs.Prelude.{◌↔◌, IsTrue};
 
 use axioms::PropId;
-use number_sets::sort_ascending;
 
 /// Two elements, the second of which the property leads to from the first. Pairs are in order of their properties, those of one
 /// property in order of their sources, and those of one source in order of their targets.
-#[derive(Clone, Copy, PartialEq, Eq, PartialOrd, Ord)]
+#[derive(Clone, Copy, PartialEq, Eq)]
 pub(crate) struct Pair {
     pub property: PropId,
     pub source: u32,
     pub target: u32,
-}
-
-/// Puts the pairs in order, and leaves of equal ones one.
-pub(crate) fn put_in_order(pairs: &mut Vec<Pair>)
-    ensures ascending { AllPairs ComesBefore pairs.new.items }
-    ensures same { (p : Pair2) → Contains pairs.new.items p ↔ Contains pairs.old.items p }
-{
-    sort_ascending(pairs);
 }
 
 /// Whether the first comes before the second in the order of pairs.

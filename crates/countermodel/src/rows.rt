@@ -4,55 +4,74 @@ ghost use Rattle.certificate.specs.View.{pair_row_of};
 ghost use Rattle.exactness.specs.ListedInterpretation.{AreSatisfiableContexts, IsBefore};
 ghost use Rattle.countermodel.specs.Edges.{IsGiven};
 ghost use Rattle.countermodel.specs.FactsOf.{AreFactsOf};
+ghost use Rattle.countermodel.specs.Keys.{HasPair};
+ghost use Rattle.countermodel.specs.LastRows.{GroupsAll};
 ghost use Rattle.countermodel.specs.PairRows.{ArePairRows};
-ghost use Rattle.countermodel.specs.Ranges.{AddsRange, HasRowsBelow, IsBelow};
+ghost use Rattle.countermodel.specs.Ranges.{AddsRange, HasRowsBelow, HaveProperties, IsBelow};
 ghost use Rattle.countermodel.specs.Sinks.{Adds};
-ghost use Rattle.std.specs.Prelude.{AllPairs, IfOk, None, OnOk, map};
+ghost use Rattle.std.specs.Prelude.{◌≤◌, ◌^◌, AllPairs, IfOk, None, OnOk, length, map};
 
 use crate::cuts::cuts_of;
-use crate::edges::pairs_of;
+use crate::edges::{Edges, keys_of};
 use crate::elements::Elements;
 use crate::grouped::add_grouped;
-use crate::pair::{Pair, PairRange, comes_before, put_in_order};
+use crate::keys::keys_in_order;
+use crate::pair::{Pair, PairRange, comes_before};
 use crate::sink::RowSink;
 use axioms::{Memory, PropId};
 use certificate::PairRow;
 use engine::Closed;
 use facts::StoredFact;
-use property_closure::PropertyClosure;
+use number_sets::OpenLists;
 use std::alloc::Global;
+
+/// Adds the rows of the pairs that the lists have, but the last one, which it gives.
+fn add_lists<S: RowSink<PairRow>>(
+    alloc: Global,
+    keys: &OpenLists<u64>,
+    last: Option<PairRow>,
+    rows: &mut S,
+) -> Result<Option<PairRow>, Memory>
+    requires { length keys.now ≤ 2 ^ 32 }
+    ensures { IfOk result (GroupsAll S.adds (HasPair keys.now) rows.old last rows.new) }
+{
+    let mut last = last;
+    for number in 0..keys.len() {
+        let property = PropId(number as u32);
+        let list = keys_in_order(alloc, keys.at(number))?;
+        last = add_grouped(alloc, property, &list, last, rows)?;
+    }
+    Ok(last)
+}
 
 /// Adds the rows of the pairs in the range to those of the pairs before it, but the last one, which it gives.
 fn add_range<S: RowSink<PairRow>>(
-    alloc: Global,
-    closure: &PropertyClosure,
-    elements: &Elements,
-    facts: &[StoredFact],
+    edges: &Edges<'_>,
     range: PairRange,
     last: Option<PairRow>,
     rows: &mut S,
 ) -> Result<Option<PairRow>, Memory>
-    requires distinct { AreDistinct elements.now }
+    requires distinct { AreDistinct edges.now.elements.now }
+    requires few { edges.now.properties ≤ 2 ^ 32 }
+    requires there { HaveProperties edges.now.properties (IsGiven edges.now.closure.now edges.now.elements.now edges.now.facts.now) }
     requires forward { IsBelow range.end range.from }
-    ensures { IfOk result (AddsRange S.adds (IsGiven closure.now elements.now facts.now) range rows.old last rows.new) }
+    ensures { IfOk result (AddsRange S.adds (IsGiven edges.now.closure.now edges.now.elements.now edges.now.facts.now) range rows.old last rows.new) }
 {
-    let mut pairs = pairs_of(alloc, &range, closure, elements, facts)?;
-    put_in_order(&mut pairs);
-    add_grouped(alloc, &pairs, last, rows)
+    let keys = keys_of(edges, &range)?;
+    add_lists(edges.alloc, &keys, last, rows)
 }
 
 /// Adds the rows of all pairs but the last one, which it gives. Pairs are made and put in order range by range, so that few of them
 /// are there at a time: the ranges end at the pairs of `cuts`.
 fn add_ranges<S: RowSink<PairRow>>(
-    alloc: Global,
-    closure: &PropertyClosure,
-    elements: &Elements,
-    facts: &[StoredFact],
+    edges: &Edges<'_>,
     cuts: &[Pair],
     rows: &mut S,
 ) -> Result<Option<PairRow>, Memory>
-    requires { AreDistinct elements.now }
-    ensures { IfOk result (HasRowsBelow S.adds (IsGiven closure.now elements.now facts.now) rows.old None rows.new) }
+    requires distinct { AreDistinct edges.now.elements.now }
+    requires few { edges.now.properties ≤ 2 ^ 32 }
+    requires there { HaveProperties edges.now.properties (IsGiven edges.now.closure.now edges.now.elements.now edges.now.facts.now) }
+    ensures { IfOk result (HasRowsBelow S.adds (IsGiven edges.now.closure.now edges.now.elements.now edges.now.facts.now) rows.old None rows.new) }
 {
     let mut from = Pair {
         property: PropId(0),
@@ -64,12 +83,12 @@ fn add_ranges<S: RowSink<PairRow>>(
         if comes_before(from, *cut) {
             let end = Some(*cut);
             let range = PairRange { from, end };
-            last = add_range(alloc, closure, elements, facts, range, last, rows)?;
+            last = add_range(edges, range, last, rows)?;
             from = *cut;
         }
     }
     let range = PairRange { from, end: None };
-    add_range(alloc, closure, elements, facts, range, last, rows)
+    add_range(edges, range, last, rows)
 }
 
 /// Adds a row for each property and each element that it leads anywhere from, with the elements there, in order. The facts are all of
@@ -90,9 +109,19 @@ pub(crate) fn add_pair_rows<S: RowSink<PairRow>>(
 {
     let alloc = closed.allocator();
     closed.well_formed();
+    let ontology = closed.ontology();
+    ontology.bounded();
     let closure = closed.closure();
-    let cuts = cuts_of(alloc, closure, elements, facts)?;
-    match add_ranges(alloc, closure, elements, facts, &cuts, rows)? {
+    let properties = ontology.properties().len();
+    let edges = Edges {
+        alloc,
+        closure,
+        elements,
+        facts,
+        properties,
+    };
+    let cuts = cuts_of(&edges)?;
+    match add_ranges(&edges, &cuts, rows)? {
         None => Ok(()),
         Some(row) => rows.add(row),
     }

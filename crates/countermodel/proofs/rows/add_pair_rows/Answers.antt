@@ -1,4 +1,4 @@
-use Rattle.std.proofs.Common.{◌↔◌, List, Contains, None, map, subst}
+use Rattle.std.proofs.Common.{◌↔◌, List, Contains, None, ap, length, map, subst, arith}
 use Rattle.std.proofs.lemmas.Result.{on_ok_weaker}
 use Rattle.axioms.specs.Ontology.{Ontology}
 use Rattle.axioms.specs.WellFormedness.{IsOntology}
@@ -17,15 +17,26 @@ use Rattle.countermodel.specs.Pairs.{AreGrouped}
 use Rattle.countermodel.specs.Ranges.{HasRowsBelow}
 use Rattle.countermodel.specs.Sinks.{Adds}
 use Rattle.countermodel.proofs.GroupedRows.{with_the_last, without_last}
-use Rattle.countermodel.proofs.ListedPairs.{are_rows, one_place}
+use Rattle.countermodel.proofs.ListedPairs.{are_rows, edge_of_pair, one_place, property_there}
 use Rattle.countermodel.proofs.PartFacts.{given_in}
 use Rattle.countermodel.proofs.rows.add_pair_rows.Goals as goal
 
-pub cuts_of-requires : goal.cuts_of-requires
-cuts_of-requires g c = one_place c.args.elements.now c.requires.ascend
+pub cuts_of-requires-clause-distinct : goal.cuts_of-requires-clause-distinct
+cuts_of-requires-clause-distinct g c = one_place c.args.elements.now c.requires.ascend
 
-pub add_ranges-requires : goal.add_ranges-requires
-add_ranges-requires g c = one_place c.args.elements.now c.requires.ascend
+pub add_ranges-requires-clause-distinct : goal.add_ranges-requires-clause-distinct
+add_ranges-requires-clause-distinct g c = one_place c.args.elements.now c.requires.ascend
+
+-- the property of a pair that the facts give is there
+pub add_ranges-requires-clause-there : goal.add_ranges-requires-clause-there
+add_ranges-requires-clause-there g c p h =
+    let o = c.args.closed.now.ontology in
+    let s = c.args.closed.now.saturation in
+    let k = c.closure-closure.result.now in
+    let elements = c.args.elements.now in
+    let given = (given_in elements s.state.facts c.args.facts.now c.requires.facts k p).0 h in
+    let (x, y, _, _, edge) = edge_of_pair o s c.well_formed-2.ensures.saturated k c.closure-closure.ensures elements p given in
+    omega (arith, property_there o s.normal.asked c.well_formed-2.ensures.ontology x y p.property.0 edge, c.properties-properties.ensures.count, ap (λ (x : Ontology). length x.names.properties) c.ontology-ontology.ensures)
 
 -- rows of the pairs that the facts give are those of the listed interpretation
 all_rows : (o : Ontology) (s : Saturated) → IsSaturated o s → (k : Known) → IsClosureOf s.state.problem.forms k → (elements : List Context) → IsOntology o

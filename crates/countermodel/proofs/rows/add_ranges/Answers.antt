@@ -5,7 +5,7 @@ use Rattle.countermodel.proofs.rows.add_ranges.Goals.{then-comes_before+in_ok-la
 use Rattle.countermodel.proofs.rows.add_ranges.Goals as goal
 
 pub loop-cut-init : goal.loop-cut-init
-loop-cut-init g c = none_below g.S.RowSink.adds (IsGiven c.args.closure.now c.args.elements.now c.args.facts.now) c.args.rows.now (g.met.S.RowSink.nothing c.args.rows.now)
+loop-cut-init g c = none_below g.S.RowSink.adds (IsGiven c.args.edges.now.closure.now c.args.edges.now.elements.now c.args.edges.now.facts.now) c.args.rows.now (g.met.S.RowSink.nothing c.args.rows.now)
 
 pub loop-cut-preserved : goal.loop-cut-preserved
 loop-cut-preserved g c = elim c.if-comes_before.branch [
