@@ -20,7 +20,7 @@ use Rattle.session.proofs.Calls.{edits_are_one_document}
 use Rattle.telling.proofs.Told.{progress_behind}
 use Rattle.session.specs.Answers.{IsWritten}
 use Rattle.telling.specs.Devices.{Device, Takes, seen}
-use Rattle.session.specs.Edits.{Reply, Added, Resumed, Answered, Found, Decided, Written, Inferred, Resume, IsCall, IsOneDocument, IsSessionOver}
+use Rattle.session.specs.Edits.{Reply, Added, Resumed, Answered, Found, Entailed, Decided, Written, Inferred, Resume, IsCall, IsOneDocument, IsSessionOver}
 use Rattle.telling.specs.Progress.{IsProgress}
 use Rattle.session.specs.Sessions.{IsSession, KeepsText, Opened}
 use Rattle.session.specs.WrittenTexts.{Sinks}
@@ -153,6 +153,7 @@ kept_by mid new most (Added answer) call = absurd call
 kept_by mid new most (Resumed answer) call = call.1
 kept_by mid new most (Answered answer) call = absurd call
 kept_by mid new most (Found answer) call = absurd call
+kept_by mid new most (Entailed answer) call = absurd call
 kept_by mid new most (Decided answer) call = absurd call
 kept_by mid new most (Written after answer) call = absurd call
 kept_by mid new most (Inferred answer) call = absurd call
@@ -171,6 +172,7 @@ adds_none asked.Run texts status payload is = refl
 adds_none (asked.RunSome more) texts status payload is = refl
 adds_none (asked.Ask question spelling) texts status payload is = refl
 adds_none (asked.Query size) texts status payload is = refl
+adds_none (asked.Entails size) texts status payload is = refl
 adds_none (asked.Write paths) texts status payload is = refl
 adds_none (asked.Infer path) texts status payload is = refl
 adds_none (asked.Axiom number spelling) texts status payload is = refl

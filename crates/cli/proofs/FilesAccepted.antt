@@ -6,9 +6,9 @@ use Rattle.lemmas.proofs.Choices.{one_value}
 use Rattle.cert_check.specs.declared.verdict.Verdict.{Verdict}
 use Rattle.cert_check.specs.declared.verdict.Verdict.TheVariants.{Accepted}
 use Rattle.certificate.specs.declared.format.Format.{Format}
-use Rattle.clap.specs.Words.{Row, Text, takes}
+use Rattle.clap.specs.Words.{Row, Text, first_of, takes}
 use Rattle.command_line.proofs.Numbers.{one_number}
-use Rattle.command_line.specs.CommandLine.{AreLimits, IsCommand, IsLimitOfFacts, IsQuestion, IsTaskOf, IsTelling, Refuses, draws_facts, elc_app, tells_progress}
+use Rattle.command_line.specs.CommandLine.{AreLimits, IsCommand, IsLimitOfFacts, IsLining, IsQuestion, IsTaskOf, IsTelling, Refuses, document_of, draws_facts, elc_app, tells_progress}
 use Rattle.command_line.specs.declared.tasks.Command.{Command}
 use Rattle.command_line.specs.declared.tasks.Command.TheVariants.{Ask, Check, Classify, Convert, Infer, Query, Restrict, Session}
 use Rattle.command_line.specs.declared.tasks.FormatNumber.{FormatNumber}
@@ -23,10 +23,11 @@ use Rattle.receiving.specs.Checks.{IsCheckFault}
 use Rattle.telling.specs.Devices.{Device}
 use Rattle.cli.specs.HeldTexts.{AreApart, HoldTexts}
 use Rattle.receiving.specs.Runs.{IsCheckRun, IsCheckTold, IsCheckedFiles, format_of}
-use Rattle.cli.specs.Runs.{IsClassifyAnswer, IsClassifyRun, IsClassifyTold, IsCommandRun}
+use Rattle.cli.specs.Runs.{IsClassifyAnswer, IsClassifyRun, IsClassifyTold, IsLinedRun, reads_before}
 use Rattle.receiving.specs.Files.{Store}
 use Rattle.telling.specs.Progress.{IsProgress}
-use Rattle.telling.specs.Printing.{Output, IsAnswered}
+use Rattle.telling.specs.Printing.{BehindProgress, Output, IsAnswered}
+use Rattle.receiving.specs.Lines.{RunsByLines}
 use Rattle.receiving.specs.Messages.{IsLineTold, verdict_status, verdict_text}
 use Rattle.cli.specs.Messages.{classify_status}
 use Rattle.receiving.specs.Theorems.{AreSamePaths}
@@ -46,6 +47,7 @@ use Rattle.program.specs.Status.{code_of}
 use Rattle.program.specs.declared.status.Status.TheVariants as statuses
 use Rattle.program.specs.declared.version.Version.{Version}
 use Rattle.system_files.specs.Contents.{Content}
+use Rattle.receiving.proofs.ByLines.{by_same, over}
 use Rattle.receiving.proofs.NotDone.{document_not_done, told_not_done}
 use Rattle.receiving.proofs.OneTask.{same_paths, one_version, one_flag, one_format}
 use Rattle.receiving.proofs.FilesRight.{checked_texts}
@@ -131,11 +133,11 @@ is_classify name rows (Query document expression spelling) is is' = let bad : tr
 is_classify name rows (Session document) is is' = let bad : true ≡ false = sym (ap is_one_of_four is) ∙ ap is_one_of_four is'.0 in absurd (cc)
 
 -- what a run of a command says that the words of `classify` ask for
-classify_run : (told : Bool) (name : Text) (rows : List Row) (paths : Paths) (number : FormatNumber) (command : Command) (limits : Limits) (s : Store) (content content' : Content) (old new : Output) (status : ℕ) → IsCommand name rows (Classify paths number) → IsCommand name rows command → IsCommandRun told command limits s content content' old new status → (paths' : Paths) × (format : Format) × AreSamePaths paths paths' × IsClassifyRun paths' format limits s content content' old new status × (format ≡ format_of number)
-classify_run told name rows paths number command limits s content content' old new status is is' run =
+classify_run : (lines told : Bool) (name : Text) (rows : List Row) (paths : Paths) (number : FormatNumber) (command : Command) (limits : Limits) (s : Store) (content content' : Content) (old new : Output) (status : ℕ) → IsCommand name rows (Classify paths number) → IsCommand name rows command → IsLinedRun lines told command limits s content content' old new status → (paths' : Paths) × (format : Format) × AreSamePaths paths paths' × IsClassifyRun paths' format limits s content content' old new status × (format ≡ format_of number)
+classify_run lines told name rows paths number command limits s content content' old new status is is' run =
     let found = is_classify name rows command is.0 is' in
     let Of : Command → Type 0 = λ c. IsCommand name rows c in
-    let Run : Command → Type 0 = λ c. IsCommandRun told c limits s content content' old new status in
+    let Run : Command → Type 0 = λ c. IsLinedRun lines told c limits s content content' old new status in
     let here : IsCommand name rows (Classify found.0 found.1) = subst Of found.2 is' in
     (found.0, format_of found.1, same_paths rows paths found.0 is.1 here.1, subst Run found.2 run, ap format_of (one_format rows found.1 number here.2 is.2))
 
@@ -151,11 +153,11 @@ is_check name rows (Query document expression spelling) is is' = let bad : true 
 is_check name rows (Session document) is is' = let bad : true ≡ false = sym (ap is_one_of_four is) ∙ ap is_one_of_four is'.0 in absurd (cc)
 
 -- what a run of a command says that the words of `check` ask for
-check_run : (told : Bool) (name : Text) (rows : List Row) (paths : Paths) (command : Command) (limits : Limits) (s : Store) (content content' : Content) (old new : Output) (status : ℕ) → IsCommand name rows (Check paths) → IsCommand name rows command → IsCommandRun told command limits s content content' old new status → (paths' : Paths) × AreSamePaths paths paths' × IsCheckRun paths' limits.version limits.max_bytes s content old new status × (tells_progress command ≡ true)
-check_run told name rows paths command limits s content content' old new status is is' run =
+check_run : (lines told : Bool) (name : Text) (rows : List Row) (paths : Paths) (command : Command) (limits : Limits) (s : Store) (content content' : Content) (old new : Output) (status : ℕ) → IsCommand name rows (Check paths) → IsCommand name rows command → IsLinedRun lines told command limits s content content' old new status → (paths' : Paths) × AreSamePaths paths paths' × IsCheckRun paths' limits.version limits.max_bytes s content old new status × (tells_progress command ≡ true)
+check_run lines told name rows paths command limits s content content' old new status is is' run =
     let found = is_check name rows command is.0 is' in
     let Of : Command → Type 0 = λ c. IsCommand name rows c in
-    let Run : Command → Type 0 = λ c. IsCommandRun told c limits s content content' old new status in
+    let Run : Command → Type 0 = λ c. IsLinedRun lines told c limits s content content' old new status in
     let here : IsCommand name rows (Check found.0) = subst Of found.1 is' in
     (found.0, same_paths rows paths found.0 is.1 here.1, subst Run found.1 run, ap tells_progress found.1)
 
@@ -186,20 +188,48 @@ pub record IsNamed (name : Text) (rows : List Row) (command : Command) (task : T
   pub is : IsCommand name rows command
   pub limits : AreLimits rows command task.limits
   pub progress : IsTelling (tells_progress command) rows task.progress
+  pub lines : IsLining rows task.lines
 
 pub named : (words : List Text) (task other : Task) (command : Command) (of : IsTaskOf words other) → IsTaskOf words task → task.command ≡ command → IsNamed of.name of.rows command task
 named words task other command of is same =
     let P : Text × List Row → Type 0 = λ p. IsNamed p.0 p.1 command task in
     let Q : Command → Type 0 = λ k. IsNamed is.name is.rows k task in
-    subst P (one_value _ _ _ is.found of.found) (subst Q same (record { is = is.is.command; limits = is.is.limits; progress = is.is.progress }))
+    subst P (one_value _ _ _ is.found of.found) (subst Q same (record { is = is.is.command; limits = is.is.limits; progress = is.is.progress; lines = is.is.lines }))
 
 -- ---- the run that the words ask for
 
+-- the path of the document is a word of the command
+named_document : (name : Text) (rows : List Row) (command : Command) → IsCommand name rows command → first_of (codes "DOC") rows ≡ Some (document_of command)
+named_document name rows (Classify paths number) is = is.1.document
+named_document name rows (Check paths) is = is.1.document
+named_document name rows (Convert conversion) is = is.1.document
+named_document name rows (Restrict document output) is = is.1
+named_document name rows (Infer document output) is = is.1
+named_document name rows (Ask document question spelling) is = is.0
+named_document name rows (Query document expression spelling) is = is.1
+named_document name rows (Session document) is = is.1
+
+-- whether lines are asked for is one flag of the words
+pub one_lining : (words : List Text) (task other : Task) (command : Command) (of' : IsTaskOf words other) → IsNamed of'.name of'.rows command task → other.lines ≡ task.lines
+one_lining words task other command of' here = one_flag (codes "lines") of'.rows other.lines task.lines of'.is.lines here.lines
+
+-- the run of a task over a document that is read before where the words ask for lines
+pub by_words : (words : List Text) (task other : Task) (command : Command) (of' : IsTaskOf words other) (s : Store) (content content' : Content) (old new : Output) (status : ℕ) (Run : Type 0) → IsNamed of'.name of'.rows command task → ((lines : Bool) → reads_before lines other.command ≡ reads_before lines command) → RunsByLines (reads_before other.lines other.command) (document_of other.command) other.limits.version other.limits.max_bytes s content content' old new status Run → RunsByLines (reads_before task.lines command) (document_of command) task.limits.version task.limits.max_bytes s content content' old new status Run
+by_words words task other command of' s content content' old new status Run here same run =
+    by_same (reads_before other.lines other.command) (reads_before task.lines command) (document_of other.command) (document_of command) other.limits.version task.limits.version other.limits.max_bytes task.limits.max_bytes s content content' old new status Run
+    (same other.lines ∙ ap (λ (lines : Bool). reads_before lines command) (one_lining words task other command of' here))
+    (one_value _ _ _ (named_document of'.name of'.rows other.command of'.is.command) (named_document of'.name of'.rows command here.is))
+    (one_version _ _ _ of'.is.limits.version here.limits.version) (one_number _ _ _ _ of'.is.limits.bytes.number here.limits.bytes.number) run
+
+-- a run of the command behind its progress
+abbrev pub IsBehind : Task → Store → (content content' : Content) → (old new : Output) → (status : ℕ) → Type 0
+IsBehind task s content content' old new status = BehindProgress task.progress old (λ begun. IsLinedRun task.lines task.progress task.command task.limits s content content' begun new status)
+
 -- the run of a check that the words ask for
-pub checked : (words : List Text) (task other : Task) (paths : Paths) (s : Store) (content content' : Content) (old new : Output) (status : ℕ) → IsTaskOf words task → task.command ≡ Check paths → IsTaskOf words other → IsCommandRun other.progress other.command other.limits s content content' old new status → (paths' : Paths) × AreSamePaths paths paths' × IsCheckRun paths' task.limits.version task.limits.max_bytes s content old new status × (other.progress ≡ task.progress)
+pub checked : (words : List Text) (task other : Task) (paths : Paths) (s : Store) (content content' : Content) (old new : Output) (status : ℕ) → IsTaskOf words task → task.command ≡ Check paths → IsTaskOf words other → IsLinedRun other.lines other.progress other.command other.limits s content content' old new status → (paths' : Paths) × AreSamePaths paths paths' × IsCheckRun paths' task.limits.version task.limits.max_bytes s content old new status × (other.progress ≡ task.progress)
 checked words task other paths s content content' old new status of is of' run =
     let here = named words task other (Check paths) of' of is in
-    let made = check_run other.progress _ _ paths other.command other.limits s content content' old new status here.is of'.is.command run in
+    let made = check_run other.lines other.progress _ _ paths other.command other.limits s content content' old new status here.is of'.is.command run in
     let P : ℕ → Type 0 = λ most. IsCheckRun made.0 other.limits.version most s content old new status in
     let Q : Version → Type 0 = λ version. IsCheckRun made.0 version task.limits.max_bytes s content old new status in
     let R : Bool → Type 0 = λ tells. IsTelling tells of'.rows other.progress in
@@ -210,22 +240,36 @@ pub refused_told : (words : List Text) (task : Task) (fault : LineFault) (old ne
 refused_told words task (line.Line error) old new status of taken refuses told = absurd (refuses.0 taken task of)
 refused_told words task line.Memory old new status of taken refuses told = told
 
+-- behind its progress
+abbrev IsAskedCheck : Paths → Task → Store → Content → (old new : Output) → (status : ℕ) → Type 0
+IsAskedCheck paths task s content old new status =
+    BehindProgress task.progress old (λ begun. (paths' : Paths) × AreSamePaths paths paths' × IsCheckRun paths' task.limits.version task.limits.max_bytes s content begun new status)
+
+checked_behind : (words : List Text) (task other : Task) (paths : Paths) (s : Store) (content content' : Content) (old new : Output) (status : ℕ) → IsTaskOf words task → task.command ≡ Check paths → IsTaskOf words other → IsBehind other s content content' old new status → IsAskedCheck paths task s content old new status
+checked_behind words task other paths s content content' old new status of is of' behind =
+    let k = checked words task other paths s content content' behind.begun new status of is of' behind.holds in
+    let Q : Bool → Type 0 = λ told. IsProgress told old.err behind.begun.err in
+    record { begun = behind.begun; unprinted = behind.unprinted; progress = subst Q k.3 behind.progress; holds = (k.0, k.1, k.2) }
+
 pub words_check : WordsOfCheckCheck
 words_check words task paths s content content' old new status of is taken (inl run) =
-    let behind = run.2 in
-    let k = checked words task run.0 paths s content content' behind.begun new status of is run.1 behind.holds in
-    let Q : Bool → Type 0 = λ told. IsProgress told old.err behind.begun.err in
-    inl (record { begun = behind.begun; unprinted = behind.unprinted; progress = subst Q k.3 behind.progress; holds = (k.0, k.1, k.2) })
+    let other = run.0 in
+    let of' = run.1 in
+    let here = named words task other (Check paths) of' of is in
+    let same : (lines : Bool) → reads_before lines other.command ≡ lines = λ lines. ap (λ (c : Command). reads_before lines c) (is_check of'.name of'.rows other.command here.is.0 of'.is.command).1 in
+    inl (over task.lines paths.document.now task.limits.version task.limits.max_bytes s content content' old new status (IsBehind other s content content' old new status) (IsAskedCheck paths task s content old new status)
+    (checked_behind words task other paths s content content' old new status of is of') (by_words words task other (Check paths) of' s content content' old new status _ here same run.2))
 words_check words task paths s content content' old new status of is taken (inr (inl told)) = absurd (told.0.0 taken)
 words_check words task paths s content content' old new status of is taken (inr (inr run)) = inr (run.2, refused_told words task run.0 old.err new.err status of taken run.1 run.3)
 
-pub words_classify : WordsOfClassifyClassify
-words_classify words task paths number s content content' old new status of is taken (inl run) =
-    let behind = run.2 in
-    let other = run.0 in
-    let of' = run.1 in
-    let here = named words task other (Classify paths number) of' of is in
-    let made = classify_run other.progress of'.name of'.rows paths number other.command other.limits s content content' behind.begun new status here.is of'.is.command behind.holds in
+-- the run of a classification that the words ask for, behind its progress
+abbrev IsAskedClassify : Paths → FormatNumber → Task → Store → (content content' : Content) → (old new : Output) → (status : ℕ) → Type 0
+IsAskedClassify paths number task s content content' old new status =
+    BehindProgress task.progress old (λ begun. (paths' : Paths) × (limits : Limits) × AreSamePaths paths paths' × AreSameLimits limits task.limits × IsClassifyRun paths' (format_of number) limits s content content' begun new status)
+
+classified_behind : (words : List Text) (task other : Task) (paths : Paths) (number : FormatNumber) (s : Store) (content content' : Content) (old new : Output) (status : ℕ) (of' : IsTaskOf words other) → IsNamed of'.name of'.rows (Classify paths number) task → IsBehind other s content content' old new status → IsAskedClassify paths number task s content content' old new status
+classified_behind words task other paths number s content content' old new status of' here behind =
+    let made = classify_run other.lines other.progress of'.name of'.rows paths number other.command other.limits s content content' behind.begun new status here.is of'.is.command behind.holds in
     let R : Bool → Type 0 = λ tells. IsTelling tells of'.rows other.progress in
     let classifies = (is_classify of'.name of'.rows other.command here.is.0 of'.is.command).2 in
     let tells : tells_progress other.command ≡ true = ap tells_progress classifies in
@@ -240,6 +284,15 @@ words_classify words task paths number s content content' old new status of is t
       version = one_version _ _ _ of'.is.limits.version here.limits.version;
     } in
     let T : Format → Type 0 = λ format. IsClassifyRun made.0 format other.limits s content content' behind.begun new status in
-    inl (record { begun = behind.begun; unprinted = behind.unprinted; progress = subst Q same behind.progress; holds = (made.0, other.limits, made.2, same_limits, subst T made.4 made.3) })
+    record { begun = behind.begun; unprinted = behind.unprinted; progress = subst Q same behind.progress; holds = (made.0, other.limits, made.2, same_limits, subst T made.4 made.3) }
+
+pub words_classify : WordsOfClassifyClassify
+words_classify words task paths number s content content' old new status of is taken (inl run) =
+    let other = run.0 in
+    let of' = run.1 in
+    let here = named words task other (Classify paths number) of' of is in
+    let same : (lines : Bool) → reads_before lines other.command ≡ lines = λ lines. ap (λ (c : Command). reads_before lines c) (is_classify of'.name of'.rows other.command here.is.0 of'.is.command).2 in
+    inl (over task.lines paths.document.now task.limits.version task.limits.max_bytes s content content' old new status (IsBehind other s content content' old new status) (IsAskedClassify paths number task s content content' old new status)
+    (classified_behind words task other paths number s content content' old new status of' here) (by_words words task other (Classify paths number) of' s content content' old new status _ here same run.2))
 words_classify words task paths number s content content' old new status of is taken (inr (inl told)) = absurd (told.0.0 taken)
 words_classify words task paths number s content content' old new status of is taken (inr (inr run)) = inr (run.2, refused_told words task run.0 old.err new.err status of taken run.1 run.3)

@@ -6,22 +6,24 @@ use Rattle.axioms.specs.Ontology.{Ontology}
 use Rattle.clap.specs.Words.{Row, Text}
 use Rattle.classification.specs.declared.classification.Summary.{Summary}
 use Rattle.receiving.proofs.NotDone.{document_not_done, told_not_done}
-use Rattle.cli.proofs.FilesAccepted.{is_infer, named, refused_told}
+use Rattle.cli.proofs.FilesAccepted.{IsBehind, IsNamed, by_words, is_infer, named, refused_told}
+use Rattle.receiving.proofs.ByLines.{over}
 use Rattle.receiving.proofs.OneTask.{one_version}
-use Rattle.cli.proofs.RestrictedRuns.{printed_done}
+use Rattle.restricting.proofs.RestrictedRuns.{printed_done}
 use Rattle.receiving.specs.Files.{Store}
 use Rattle.receiving.specs.HeldTexts.{Holds}
-use Rattle.telling.specs.Printing.{Output}
+use Rattle.telling.specs.Printing.{BehindProgress, Output}
 use Rattle.cli.specs.Messages.{summary_text}
-use Rattle.cli.specs.Runs.{IsCommandRun, IsInferMade, IsInferRun, IsInferTold}
+use Rattle.cli.specs.Runs.{IsInferMade, IsInferRun, IsInferTold, IsLinedRun, reads_before}
 use Rattle.cli.specs.Theorems.{InferredAxiomsSayTheSame, IsInferredInto}
 use Rattle.cli.specs.WordsOfRuns.{AreSameLimits, WordsOfInferInfer}
 use Rattle.cli.specs.declared.fault.InferenceFault.{InferenceFault}
 use Rattle.cli.specs.declared.fault.InferenceFault.TheVariants.{Run, Unwritten}
 use Rattle.command_line.proofs.Numbers.{one_number}
-use Rattle.command_line.specs.CommandLine.{IsCommand, IsLimitOfFacts, IsTelling, draws_facts, tells_progress}
+use Rattle.command_line.specs.CommandLine.{IsCommand, IsLimitOfFacts, IsTaskOf, IsTelling, draws_facts, tells_progress}
 use Rattle.command_line.specs.declared.tasks.Command.{Command}
 use Rattle.command_line.specs.declared.tasks.Command.TheVariants.{Infer}
+use Rattle.command_line.specs.declared.tasks.Task.{Task}
 use Rattle.profile.specs.Documents.{ReadsAs}
 use Rattle.profile.specs.Faults.{ReadsKnown}
 use Rattle.program.specs.Status.{code_of}
@@ -37,11 +39,11 @@ use Rattle.system_files.specs.Contents.{Content, IsThere}
 
 -- ---- the run that the words ask for
 
-infer_run : (told : Bool) (name : Text) (rows : List Row) (document output : Bor (List ℕ)) (command : Command) (limits : Limits) (s : Store) (content content' : Content) (old new : Output) (status : ℕ) → IsCommand name rows (Infer document output) → IsCommand name rows command → IsCommandRun told command limits s content content' old new status → IsInferRun document.now output.now limits s content content' old new status
-infer_run told name rows document output command limits s content content' old new status is is' run =
+infer_run : (lines told : Bool) (name : Text) (rows : List Row) (document output : Bor (List ℕ)) (command : Command) (limits : Limits) (s : Store) (content content' : Content) (old new : Output) (status : ℕ) → IsCommand name rows (Infer document output) → IsCommand name rows command → IsLinedRun lines told command limits s content content' old new status → IsInferRun document.now output.now limits s content content' old new status
+infer_run lines told name rows document output command limits s content content' old new status is is' run =
     let found = is_infer name rows command is.0 is' in
     let Of : Command → Type 0 = λ c. IsCommand name rows c in
-    let Run : Command → Type 0 = λ c. IsCommandRun told c limits s content content' old new status in
+    let Run : Command → Type 0 = λ c. IsLinedRun lines told c limits s content content' old new status in
     let here : IsCommand name rows (Infer found.0 found.1) = subst Of found.2 is' in
     let P : List ℕ → Type 0 = λ path. IsInferRun path found.1.now limits s content content' old new status in
     let Q : List ℕ → Type 0 = λ path. IsInferRun document.now path limits s content content' old new status in
@@ -87,14 +89,14 @@ pub inferred_runs : InferredAxiomsSayTheSame
 inferred_runs document output limits s content content' old new known run =
     (finished document output limits s content content' old new run.answer known run.made run.told, run.made.others)
 
--- the words that ask for it
-pub words_infer : WordsOfInferInfer
-words_infer words task document output s content content' old new status of is taken (inl run) =
-    let behind = run.2 in
-    let other = run.0 in
-    let of' = run.1 in
-    let here = named words task other (Infer document output) of' of is in
-    let made = infer_run other.progress of'.name of'.rows document output other.command other.limits s content content' behind.begun new status here.is of'.is.command behind.holds in
+-- the run that the words ask for, behind its progress
+abbrev IsAskedInfer : (document output : List ℕ) → Task → Store → (content content' : Content) → (old new : Output) → (status : ℕ) → Type 0
+IsAskedInfer document output task s content content' old new status =
+    BehindProgress task.progress old (λ begun. (limits : Limits) × AreSameLimits limits task.limits × IsInferRun document output limits s content content' begun new status)
+
+inferred_behind : (words : List Text) (task other : Task) (document output : Bor (List ℕ)) (s : Store) (content content' : Content) (old new : Output) (status : ℕ) (of' : IsTaskOf words other) → IsNamed of'.name of'.rows (Infer document output) task → IsBehind other s content content' old new status → IsAskedInfer document.now output.now task s content content' old new status
+inferred_behind words task other document output s content content' old new status of' here behind =
+    let made = infer_run other.lines other.progress of'.name of'.rows document output other.command other.limits s content content' behind.begun new status here.is of'.is.command behind.holds in
     let infers = (is_infer of'.name of'.rows other.command here.is.0 of'.is.command).2 in
     let R : Bool → Type 0 = λ tells. IsTelling tells of'.rows other.progress in
     let same : other.progress ≡ task.progress = subst R (ap tells_progress infers) of'.is.progress ∙ sym here.progress in
@@ -107,6 +109,16 @@ words_infer words task document output s content content' old new status of is t
       facts = one_number _ _ _ _ facts.number here.limits.facts.number;
       version = one_version _ _ _ of'.is.limits.version here.limits.version;
     } in
-    inl (record { begun = behind.begun; unprinted = behind.unprinted; progress = subst Q same behind.progress; holds = (other.limits, same_limits, made) })
+    record { begun = behind.begun; unprinted = behind.unprinted; progress = subst Q same behind.progress; holds = (other.limits, same_limits, made) }
+
+-- the words that ask for it
+pub words_infer : WordsOfInferInfer
+words_infer words task document output s content content' old new status of is taken (inl run) =
+    let other = run.0 in
+    let of' = run.1 in
+    let here = named words task other (Infer document output) of' of is in
+    let same : (lines : Bool) → reads_before lines other.command ≡ lines = λ lines. ap (λ (c : Command). reads_before lines c) (is_infer of'.name of'.rows other.command here.is.0 of'.is.command).2 in
+    inl (over task.lines document.now task.limits.version task.limits.max_bytes s content content' old new status (IsBehind other s content content' old new status) (IsAskedInfer document.now output.now task s content content' old new status)
+    (inferred_behind words task other document output s content content' old new status of' here) (by_words words task other (Infer document output) of' s content content' old new status _ here same run.2))
 words_infer words task document output s content content' old new status of is taken (inr (inl told)) = absurd (told.0.0 taken)
 words_infer words task document output s content content' old new status of is taken (inr (inr run)) = inr (run.2, refused_told words task run.0 old.err new.err status of taken run.1 run.3)

@@ -7,7 +7,6 @@ pub mod SomeTexts
 pub mod Left
 pub mod Filed
 pub mod FiledInference
-pub mod Restricted
 pub mod Inferences
 pub mod WrittenAccepted
 pub mod FilesAccepted

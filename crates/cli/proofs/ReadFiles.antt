@@ -1,5 +1,5 @@
 -- What was read of the document of a session that is not opened.
-use Rattle.std.proofs.Common.{◌≡◌, ◌+◌, ◌<◌, ◌-◌, ℕ, List, Bool, Option, Result, Ok, Err, IfErr, refl, ap}
+use Rattle.std.proofs.Common.{◌≡◌, ◌+◌, ◌<◌, ℕ, List, Bool, Option, Result, Ok, Err, IfErr, refl, ap}
 use Rattle.std.specs.Prelude.{IsErrOf}
 use Rattle.receiving.specs.Files.{BlamesFile, IsSourceOf}
 use Rattle.device.specs.Device.{HasFailed, LosesFront}

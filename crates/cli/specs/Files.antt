@@ -4,8 +4,6 @@ use Rattle.cli.specs.declared.fault.ClassifyFault.{ClassifyFault}
 use Rattle.cli.specs.declared.fault.ClassifyFault.TheVariants as classifying
 use Rattle.cli.specs.declared.fault.InferenceFault.{InferenceFault}
 use Rattle.cli.specs.declared.fault.InferenceFault.TheVariants as inferring
-use Rattle.cli.specs.declared.fault.RestrictionFault.{RestrictionFault}
-use Rattle.cli.specs.declared.fault.RestrictionFault.TheVariants as restricting
 use Rattle.session.specs.declared.question_fault.QuestionFault.{QuestionFault}
 use Rattle.session.specs.declared.question_fault.QuestionFault.TheVariants as asking
 use Rattle.session.specs.declared.run_fault.RunFault.TheVariants as running
@@ -27,12 +25,6 @@ abbrev pub AsksFile : {X : Type 0} → (fails known : Bool) → Option (List ℕ
 AsksFile fails known held (Ok x) = IsThere known held
 AsksFile fails known held (Err (asking.Document fault)) = BlamesFile fails known held fault
 AsksFile fails known held (Err fault) = IsThere known held
-
--- what an answer of a restriction says of the document's file, and of the writes that failed
-abbrev pub RestrictsFile : {X : Type 0} → Store → Option (List ℕ) → Result X RestrictionFault → Type 0
-RestrictsFile s held (Ok x) = IsThere s.is_known held × NoWriteFails s
-RestrictsFile s held (Err (restricting.Document fault)) = BlamesFile s.reads_fail s.is_known held fault × NoWriteFails s
-RestrictsFile s held (Err restricting.Unwritten) = IsThere s.is_known held × SomeWriteFails s
 
 -- what an answer of an inference says of the document's file, and of the writes that failed
 abbrev pub InfersFile : {X : Type 0} → Store → Option (List ℕ) → Result X InferenceFault → Type 0

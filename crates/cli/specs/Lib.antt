@@ -1,6 +1,5 @@
 pub mod Messages
 pub mod Classifications
-pub mod Restrictions
 pub mod Inferring
 pub mod FileSinks
 pub mod Files

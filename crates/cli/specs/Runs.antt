@@ -1,9 +1,9 @@
 -- What a run of the program does.
-use Rattle.std.specs.Prelude.{◌≡◌, ℕ, ◌⊎◌, List, [], ◌∷◌, Bool, true, false, Result, Ok, Err, string_bytes}
+use Rattle.std.specs.Prelude.{◌≡◌, ℕ, ◌⊎◌, List, ◌∷◌, Bool, true, false, Result, Ok, Err}
 use Rattle.certificate.specs.declared.format.Format.{Format}
 use Rattle.classification.specs.declared.classification.Summary.{Summary}
 use Rattle.clap.specs.Words.{Text}
-use Rattle.command_line.specs.CommandLine.{AskForVersion, Gives, IsTaskOf, Refuses}
+use Rattle.command_line.specs.CommandLine.{AskForVersion, Gives, IsTaskOf, Refuses, document_of}
 use Rattle.command_line.specs.declared.tasks.Command.{Command}
 use Rattle.command_line.specs.declared.tasks.Command.TheVariants.{Ask, Check, Classify, Convert, Infer, Query, Restrict, Session}
 use Rattle.command_line.specs.declared.tasks.Invocation.TheVariants as invocations
@@ -11,18 +11,18 @@ use Rattle.command_line.specs.declared.tasks.LineFault.{LineFault}
 use Rattle.command_line.specs.declared.tasks.Paths.{Paths}
 use Rattle.command_line.specs.declared.tasks.Task.{Task}
 use Rattle.cli.specs.Inferring.{IsInferenceAnswer}
-use Rattle.cli.specs.Restrictions.{IsRestrictionAnswer}
-use Rattle.profile.specs.Messages.{status_of}
+use Rattle.restricting.specs.Runs.{IsRestrictRun}
 use Rattle.std.specs.Global.{Vec}
 use Rattle.answers.specs.Questions.{names_in}
 use Rattle.program.specs.declared.question.Question.{Question}
 use Rattle.program.specs.declared.question.Question.TheVariants.{Unsatisfiable}
 use Rattle.program.specs.declared.question.Spelling.{Spelling}
-use Rattle.cli.specs.Files.{AsksFile, ClassifiesFile, InfersFile, RestrictsFile}
+use Rattle.cli.specs.Files.{AsksFile, ClassifiesFile, InfersFile}
 use Rattle.receiving.specs.Files.{Store, store}
 use Rattle.telling.specs.Printing.{BehindProgress, Output, IsAnswered, IsTold, outputs}
-use Rattle.telling.specs.Messages.{cannot_write, IsDocumentText}
+use Rattle.telling.specs.Messages.{cannot_write}
 use Rattle.cli.specs.Messages.{summary_text, version_text, IsClassifyText, classify_status}
+use Rattle.receiving.specs.Lines.{RunsByLines}
 use Rattle.receiving.specs.Messages.{IsLineTold}
 use Rattle.speech.specs.Messages.{IsQuestionText, question_status}
 use Rattle.cli.specs.Classifications.{IsFaultOf}
@@ -35,8 +35,6 @@ use Rattle.cli.specs.declared.fault.ClassifyFault.{ClassifyFault}
 use Rattle.cli.specs.declared.fault.ClassifyFault.TheVariants.{Io}
 use Rattle.cli.specs.declared.fault.InferenceFault.{InferenceFault}
 use Rattle.cli.specs.declared.fault.InferenceFault.TheVariants as inferring
-use Rattle.cli.specs.declared.fault.RestrictionFault.{RestrictionFault}
-use Rattle.cli.specs.declared.fault.RestrictionFault.TheVariants as restricting
 use Rattle.device.specs.declared.device.Sink as sinks
 use Rattle.program.specs.declared.limits.Limits.{Limits}
 use Rattle.program.specs.declared.status.Status.{Status}
@@ -45,7 +43,6 @@ use Rattle.session.specs.Run.{question_fault}
 use Rattle.session.specs.TextAnswers as asking
 use Rattle.session.specs.TextAnswers.{AnswersQuery, AnswersQuestion}
 use Rattle.session.specs.declared.question_fault.QuestionFault.{QuestionFault}
-use Rattle.statements_text.specs.declared.restriction.Restriction.{Restriction}
 use Rattle.system_files.specs.Contents.{Content}
 use Rattle.system_files.specs.declared.files.Files as files
 use Rattle.receiving.specs.Runs.{format_of, IsCheckRun, IsConvertRun}
@@ -85,30 +82,6 @@ pub record IsClassifyRun (paths : Paths) (format : Format) (limits : Limits) (s 
   pub answer : Result Summary ClassifyFault
   pub made : IsClassifyMade paths format limits s content content' answer
   pub told : IsClassifyTold paths limits answer old new status
-
--- what an answer says of the document, and of the file that is written
-abbrev pub IsRestrictAnswer : (document output : List ℕ) → Limits → (known : Bool) → (content content' : Content) → Result Restriction RestrictionFault → Type 0
-IsRestrictAnswer document output limits known content content' answer =
-    IsRestrictionAnswer limits.version limits.max_bytes (content document) (Holds known (content' output)) (HoldsPrefix known (content output) (content' output))
-    (Stays known (content output) (content' output)) answer
-
--- the answer is that of a restriction in files, no other file is written, and a device is blamed only where it failed
-pub record IsRestrictionMade (document output : List ℕ) (limits : Limits) (s : Store) (content content' : Content) (answer : Result Restriction RestrictionFault) : Type 0 where
-  pub answered : IsRestrictAnswer document output limits s.is_known content content' answer
-  pub blames : RestrictsFile s (content document) answer
-  pub others : AreOtherFilesKept output content content'
-
--- the report is printed; or a fault is told
-abbrev pub IsRestrictTold : (document output : List ℕ) → (bytes : ℕ) → Result Restriction RestrictionFault → (old new : Output) → (status : ℕ) → Type 0
-IsRestrictTold document output bytes (Ok restriction) old new status = IsAnswered old new (string_bytes restriction.report) statuses.Done status
-IsRestrictTold document output bytes (Err (restricting.Document fault)) old new status = (new.out ≡ old.out) × IsTold old.err new.err (IsDocumentText document bytes fault) (status_of fault) status
-IsRestrictTold document output bytes (Err restricting.Unwritten) old new status = (new.out ≡ old.out) × IsTold old.err new.err (λ text. text ≡ cannot_write output) statuses.File status
-
--- a run of `restrict`
-pub record IsRestrictRun (document output : List ℕ) (limits : Limits) (s : Store) (content content' : Content) (old new : Output) (status : ℕ) : Type 0 where
-  pub answer : Result Restriction RestrictionFault
-  pub made : IsRestrictionMade document output limits s content content' answer
-  pub told : IsRestrictTold document output limits.max_bytes answer old new status
 
 -- what an answer says of the document, and of the file that is written
 abbrev pub IsInferAnswer : (document output : List ℕ) → Limits → (known : Bool) → (content content' : Content) → Result Summary InferenceFault → Type 0
@@ -170,22 +143,38 @@ pub record IsQueryRun (path text : List ℕ) (spelling : Spelling) (limits : Lim
   pub blames : AsksFile s.reads_fail s.is_known (content path) answer
   pub told : IsQuestionTold path limits statuses.Done answer old new status
 
--- a run of a command within the limits
+-- a run of a command within the limits, whose faults are told without lines and columns
 abbrev pub IsCommandRun : (told : Bool) → Command → Limits → Store → (content content' : Content) → (old new : Output) → (status : ℕ) → Type 0
 IsCommandRun told (Classify paths number) limits s content content' old new status = IsClassifyRun paths (format_of number) limits s content content' old new status
 IsCommandRun told (Check paths) limits s content content' old new status = IsCheckRun paths limits.version limits.max_bytes s content old new status
 IsCommandRun told (Convert conversion) limits s content content' old new status = IsConvertRun conversion limits s content content' old new status
-IsCommandRun told (Restrict document output) limits s content content' old new status = IsRestrictRun document.now output.now limits s content content' old new status
+IsCommandRun told (Restrict document output) limits s content content' old new status = IsRestrictRun false document.now output.now limits s content content' old new status
 IsCommandRun told (Infer document output) limits s content content' old new status = IsInferRun document.now output.now limits s content content' old new status
 IsCommandRun told (Ask document question spelling) limits s content content' old new status = IsAskRun document.now question spelling limits s content old new status
 IsCommandRun told (Query document expression spelling) limits s content content' old new status = IsQueryRun document.now expression.now spelling limits s content old new status
 IsCommandRun told (Session document) limits s content content' old new status = IsSessionRun told document limits s content content' old new status
 
--- a run of the program: of the task that the words ask for, behind its progress; or they ask for the version, which is told, and no file is
--- written; or they ask for nothing that the program does, which is told
+-- a run whose faults of trees are told with them where lines are asked for: those that a restriction reports
+abbrev pub IsLinedRun : (lines told : Bool) → Command → Limits → Store → (content content' : Content) → (old new : Output) → (status : ℕ) → Type 0
+IsLinedRun lines told (Restrict document output) limits s content content' old new status = IsRestrictRun lines document.now output.now limits s content content' old new status
+IsLinedRun lines told command limits s content content' old new status = IsCommandRun told command limits s content content' old new status
+
+-- whether the document is read before a run: where lines are asked for, but of a restriction, for which a fault of a tree is no refusal
+abbrev pub reads_before : (lines : Bool) → Command → Bool
+reads_before lines (Restrict document output) = false
+reads_before lines command = lines
+
+-- a run of the task, behind its progress; where it tells lines the document is read before
+abbrev pub IsTaskRun : Task → Store → (content content' : Content) → (old new : Output) → (status : ℕ) → Type 0
+IsTaskRun task s content content' old new status =
+    RunsByLines (reads_before task.lines task.command) (document_of task.command) task.limits.version task.limits.max_bytes s content content' old new status
+    (BehindProgress task.progress old (λ begun. IsLinedRun task.lines task.progress task.command task.limits s content content' begun new status))
+
+-- a run of the program: of the task that the words ask for; or they ask for the version, which is told, and no file is written; or they ask
+-- for nothing that the program does, which is told
 abbrev pub IsPerformed : List Text → Store → (content content' : Content) → (old new : Output) → (status : ℕ) → Type 0
 IsPerformed words s content content' old new status =
-    ((task : Task) × IsTaskOf words task × BehindProgress task.progress old (λ begun. IsCommandRun task.progress task.command task.limits s content content' begun new status) × ¬ AskForVersion words)
+    ((task : Task) × IsTaskOf words task × IsTaskRun task s content content' old new status × ¬ AskForVersion words)
     ⊎ (Gives words invocations.Version × (content' ≡ content) × IsAnswered old new version_text statuses.Done status)
     ⊎ ((fault : LineFault) × Refuses words fault × (new.out ≡ old.out) × IsLineTold fault old.err new.err status)
 
@@ -214,6 +203,17 @@ abbrev pub RunsTelling : {F In Out O E : Type 0} → files.Ghosts F In Out → s
 RunsTelling F O E told command limits old new status =
     BehindProgress told (outputs O E old.1 old.2)
     (λ begun. IsCommandRun told command limits (store F old.0 new.0) (F.content old.0) (F.content new.0) begun (outputs O E new.1 new.2) status)
+
+-- a run behind its progress whose faults are told by lines where these are asked for
+abbrev pub RunsLined : {F In Out O E : Type 0} → files.Ghosts F In Out → sinks.Ghosts O → sinks.Ghosts E → (lines told : Bool) → Command → Limits → (old new : F × O × E) → (status : ℕ) → Type 0
+RunsLined F O E lines told command limits old new status =
+    BehindProgress told (outputs O E old.1 old.2)
+    (λ begun. IsLinedRun lines told command limits (store F old.0 new.0) (F.content old.0) (F.content new.0) begun (outputs O E new.1 new.2) status)
+
+-- a run of the task
+abbrev pub RunsTask : {F In Out O E : Type 0} → files.Ghosts F In Out → sinks.Ghosts O → sinks.Ghosts E → Task → (old new : F × O × E) → (status : ℕ) → Type 0
+RunsTask F O E task old new status =
+    IsTaskRun task (store F old.0 new.0) (F.content old.0) (F.content new.0) (outputs O E old.1 old.2) (outputs O E new.1 new.2) status
 
 -- a run of the program
 abbrev pub Performs : {F In Out O E : Type 0} → files.Ghosts F In Out → sinks.Ghosts O → sinks.Ghosts E → List Text → (old new : F × O × E) → (status : ℕ) → Type 0

@@ -1,6 +1,5 @@
 -- What is proved of classifications and checks together.
 use Rattle.std.specs.Prelude.{◌≡◌, ◌<◌, ◌≤◌, ℕ, ◌⊎◌, List, [], Option, Result, Ok, Err, Some, true, codes, length}
-use Rattle.axioms.specs.Numbering.{IsOntologyOf}
 use Rattle.axioms.specs.Ontology.{Ontology}
 use Rattle.cert_check.specs.Acceptance.{IsAcceptable}
 use Rattle.cert_check.specs.declared.verdict.Verdict.TheVariants.{Accepted}
@@ -13,7 +12,7 @@ use Rattle.receiving.specs.Files.{Store}
 use Rattle.cli.specs.HeldTexts.{AreApart}
 use Rattle.receiving.specs.HeldTexts.{AreOtherFilesKept}
 use Rattle.receiving.specs.Runs.{IsCheckRun}
-use Rattle.cli.specs.Runs.{IsClassifyRun, IsInferRun, IsRestrictRun}
+use Rattle.cli.specs.Runs.{IsClassifyRun, IsInferRun}
 use Rattle.telling.specs.Printing.{Output, IsAnswered, IsTold}
 use Rattle.receiving.specs.Messages.{IsCheckText, check_status}
 use Rattle.cli.specs.Messages.{summary_text}
@@ -22,15 +21,12 @@ use Rattle.session.specs.Classifications.{IsClassified}
 use Rattle.telling.specs.Devices.{Device, Takes}
 use Rattle.session.specs.Inferences.{IsInferred}
 use Rattle.session.specs.WrittenTexts.{Texts, AreWritten, Sinks}
-use Rattle.shapes.specs.Faults.{document_faults}
-use Rattle.statements_text.specs.Restrictions.{faulty, kept_statements, report_text}
 use Rattle.receiving.specs.declared.checking.Checked.{Checked}
 use Rattle.receiving.specs.declared.fault.CheckFault.{CheckFault}
 use Rattle.receiving.specs.declared.fault.CheckFault.TheVariants.{Document, Memory, Io}
 use Rattle.cli.specs.declared.fault.ClassifyFault.{ClassifyFault}
 use Rattle.cli.specs.declared.fault.ClassifyFault.TheVariants as classifying
-use Rattle.fs_parser.specs.Document as parsed
-use Rattle.profile.specs.Documents.{AreTextOf, ReadsAs}
+use Rattle.profile.specs.Documents.{ReadsAs}
 use Rattle.profile.specs.Faults.{ReadAsNone}
 use Rattle.profile.specs.declared.fault.DocumentFault.TheVariants as reading
 use Rattle.engine.specs.Saturations.{HasMoreFactsThan}
@@ -121,33 +117,6 @@ WrittenFilesAreAccepted =
     AreSamePaths paths paths' → AreApart paths → IsDocumentApart paths → s.is_known ≡ true → content paths.document.now ≡ Some document →
     IsClassifyRun paths format limits s content content' old new (code_of statuses.Done) → IsCheckRun paths' version most s' content' old' new' status →
     IsAcceptedRun version most document old' new' status
-
--- ---- what is restricted
-
--- the one file held the text of a document, of at most so many bytes. The other holds a text that reads in the version as the ontology of
--- what the trees without faults of that document state; where it has no faults, it reads as the same ontology. A line for each of its faults
--- went out, and one of how many statements are kept and how many trees are left out
-pub record IsRestrictedInto (version : Version) (most : ℕ) (held held' : Option (List ℕ)) (old new : Device) : Type 0 where
-  pub bytes : List ℕ
-  pub held_is : held ≡ Some bytes
-  pub within : length bytes ≤ most
-  pub document : parsed.Document
-  pub text : AreTextOf bytes document
-  pub kept : List ℕ
-  pub kept_is : held' ≡ Some kept
-  pub ontology : Ontology
-  pub numbered : IsOntologyOf (kept_statements version document.trees) ontology
-  pub reads : ReadsAs version kept ontology
-  pub whole : document_faults version document.trees ≡ [] → ReadsAs version bytes ontology
-  pub reported : Takes old new (report_text (document_faults version document.trees) (length (kept_statements version document.trees)) (faulty version document.trees))
-
--- after a run of `restrict` with status 0, over files whose content is known, that is what its two files hold and what standard output has
--- taken, and all other files hold what they did
-abbrev pub WhatIsRestricted : Type 0
-WhatIsRestricted =
-    (document output : List ℕ) (limits : Limits) (s : Store) (content content' : Content) (old new : Output) →
-    s.is_known ≡ true → IsRestrictRun document output limits s content content' old new (code_of statuses.Done) →
-    IsRestrictedInto limits.version limits.max_bytes (content document) (content' output) old.out new.out × AreOtherFilesKept output content content'
 
 -- ---- what is inferred
 

@@ -1,4 +1,4 @@
-//! Why a document is not classified or restricted, or nothing inferred of it.
+//! Why a document is not classified, or nothing inferred of it.
 
 use profile::DocumentFault;
 use session::RunFault;
@@ -20,17 +20,6 @@ pub enum ClassifyFault {
     /// taken their whole text, this one a prefix of its text, those behind it nothing.
     #[error("sink {0} failed")]
     Io(usize),
-}
-
-/// Why what of a document is of the profile was not written.
-#[derive(Debug, Drop, Error)]
-pub enum RestrictionFault {
-    /// The document was not read, or too many names of it are kept. Nothing is written.
-    #[error(transparent)]
-    Document(DocumentFault),
-    /// The sink failed. It has taken a prefix of the text.
-    #[error("the text's sink failed")]
-    Unwritten,
 }
 
 /// Why what is inferred of a document was not written.

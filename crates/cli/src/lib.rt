@@ -4,7 +4,7 @@
 ghost use Rattle.cli.specs.Filing.{FiledConversationsAreCalls, FiledConversationsAreOneDocument};
 ghost use Rattle.cli.specs.SpokenSessions.{SpokenSessionsAreAnswered};
 ghost use Rattle.receiving.specs.Theorems.{AcceptedFilesAreRight, AcceptedTextsAreRight};
-ghost use Rattle.cli.specs.Theorems.{EveryDocumentIsClassified, InferredAxiomsSayTheSame, ReadDocumentsAreNoStop, WhatIsRestricted, WhatIsWrittenIsAccepted, WrittenFilesAreAccepted};
+ghost use Rattle.cli.specs.Theorems.{EveryDocumentIsClassified, InferredAxiomsSayTheSame, ReadDocumentsAreNoStop, WhatIsWrittenIsAccepted, WrittenFilesAreAccepted};
 ghost use Rattle.cli.specs.WordsOfRuns.{WordsOfCheckCheck, WordsOfClassifyClassify, VersionIsAWord, WordsOfInferInfer, WordsOfRestrictRestrict, WordsOfVersionTell};
 
 mod asking;
@@ -13,7 +13,6 @@ mod fault;
 mod filing;
 mod inferring;
 mod printing;
-mod restricting;
 mod run;
 mod sinks;
 mod slicing;
@@ -29,22 +28,21 @@ pub use classifying::classify_document;
 pub use command_line::{
     Command, Conversion, FormatNumber, Invocation, LineFault, Paths, Task, invocation,
 };
-pub use fault::{ClassifyFault, InferenceFault, RestrictionFault};
+pub use fault::{ClassifyFault, InferenceFault};
 pub use inferring::infer_document;
 pub use profile::{DocumentFault, Limits, Version, read_document};
 pub use receiving::{
     CheckFault, Checked, ConversionFault, accepted_files_are_right, accepted_texts_are_right,
     check_document, convert_certificate,
 };
-pub use restricting::restrict_document;
+pub use restricting::{Restriction, RestrictionFault, restrict_document, what_is_restricted};
 pub use run::perform;
 pub use session::{
-    Answer, Answers, AskFault, Asked, Explanation, Inferred, Interpretation, Line, QueryFault,
-    Question, QuestionFault, Related, RunFault, Session, Shown, Side, Spelling, Stop, WritingFault,
-    query_text, question_text,
+    Answer, Answers, AskFault, Asked, EntailsFault, Explanation, Inferred, Interpretation, Line,
+    QueryFault, Question, QuestionFault, Related, RunFault, Session, Shown, Side, Spelling, Stop,
+    WritingFault, query_text, question_text,
 };
 pub use starting::start;
-pub use statements_text::Restriction;
 pub use system_files::Files;
 
 /// Every document of the profile is classified: where its bytes are within the limit and read as an ontology in the version
@@ -79,14 +77,6 @@ pub fn words_ask_for_one_run()
     ensures infer { WordsOfInferInfer }
     ensures version { WordsOfVersionTell }
     ensures version_word { VersionIsAWord }
-{}
-
-/// A run of `restrict` over files whose content is known that ends with status 0: its first file held the text of a document, its second
-/// holds the text of a document that reads as the ontology of what the trees of the first without faults state, and every fault of the first
-/// is printed, with how many statements are kept and how many trees are left out. Of a document without faults this is the ontology that it
-/// reads as.
-pub fn what_is_restricted()
-    ensures { WhatIsRestricted }
 {}
 
 /// A run of `infer` over files whose content is known that ends with status 0: its first file held a document, which reads as an ontology;

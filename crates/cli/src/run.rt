@@ -1,5 +1,5 @@
 //! A whole run of the program.
-ghost use Rattle.cli.specs.Runs.{AskForNoFiles, IsClassifyMade, IsClassifyTold, Performs, RunsTelling, writes_files};
+ghost use Rattle.cli.specs.Runs.{AskForNoFiles, IsClassifyMade, IsClassifyTold, Performs, RunsLined, RunsTask, RunsTelling, reads_before as before, writes_files};
 ghost use Rattle.receiving.specs.Files.{store};
 ghost use Rattle.std.specs.Prelude.{◌≡◌, false, map};
 ghost use Rattle.telling.specs.Devices.{seen};
@@ -11,7 +11,6 @@ use crate::classifying::classify_document;
 use crate::fault::ClassifyFault;
 use crate::inferring::perform_infer;
 use crate::printing::{classify_message, print_summary, print_version};
-use crate::restricting::perform_restrict;
 use crate::sinks::sinks_of;
 use crate::speaking::perform_session;
 use certificate::Format;
@@ -19,7 +18,8 @@ use classification::Summary;
 use command_line::{Command, FormatNumber, Invocation, Paths, Task, invocation};
 use device::Sink;
 use profile::{DocumentFault, Limits};
-use receiving::{format_of, perform_check, perform_convert, refuse, source_of};
+use receiving::{format_of, perform_check, perform_convert, read_by_lines, refuse, source_of};
+use restricting::perform_restrict;
 use std::alloc::Global;
 use std::hash::RandomState;
 use system_files::Files;
@@ -100,8 +100,8 @@ fn perform_classify<F: Files, O: Sink, E: Sink>(
     tell_classified(alloc, answer, paths, limits, out, err)
 }
 
-/// Does the task.
-fn perform_task<F: Files, O: Sink, E: Sink>(
+/// Does what the task asks for.
+fn perform_command<F: Files, O: Sink, E: Sink>(
     alloc: Global,
     task: &Task<'_>,
     files: &mut F,
@@ -109,7 +109,7 @@ fn perform_task<F: Files, O: Sink, E: Sink>(
     err: &mut E,
     state: RandomState,
 ) -> u8
-    ensures performed { RunsTelling F.Files O.Sink E.Sink task.now.progress task.now.command task.now.limits
+    ensures performed { RunsLined F.Files O.Sink E.Sink task.now.lines task.now.progress task.now.command task.now.limits
         (files.old, out.old, err.old) (files.new, out.new, err.new) result }
     ensures untouched { writes_files task.now.command ≡ false → files.new ≡ files.old }
 {
@@ -126,7 +126,9 @@ fn perform_task<F: Files, O: Sink, E: Sink>(
             perform_convert(alloc, &conversion, &limits, files, out, err, state)
         }
         Command::Restrict { document, output } => {
-            perform_restrict(alloc, document, output, &limits, files, out, err, state)
+            perform_restrict(
+                alloc, document, output, &limits, task.lines, files, out, err, state,
+            )
         }
         Command::Infer { document, output } => {
             perform_infer(alloc, document, output, &limits, files, out, err, state)
@@ -149,6 +151,37 @@ fn perform_task<F: Files, O: Sink, E: Sink>(
             perform_session(alloc, document, &limits, told, files, out, err, state)
         }
     }
+}
+
+/// Whether the document is read before the task is done: where lines are asked for, but of a restriction, which tells them itself.
+fn reads_before(task: &Task<'_>) -> bool
+    ensures { result ≡ before task.now.lines task.now.command }
+{
+    match task.command {
+        Command::Restrict { .. } => false,
+        _ => task.lines,
+    }
+}
+
+/// Does the task. Where the document is read before, and does not read as an ontology, no more is done.
+fn perform_task<F: Files, O: Sink, E: Sink>(
+    alloc: Global,
+    task: &Task<'_>,
+    files: &mut F,
+    out: &mut O,
+    err: &mut E,
+    state: RandomState,
+) -> u8
+    ensures performed { RunsTask F.Files O.Sink E.Sink task.now (files.old, out.old, err.old) (files.new, out.new, err.new) result }
+    ensures untouched { writes_files task.now.command ≡ false → files.new ≡ files.old }
+{
+    if reads_before(task) {
+        let path = task.command.document();
+        if let Err(status) = read_by_lines(alloc, path, &task.limits, files, err, state) {
+            return status;
+        }
+    }
+    perform_command(alloc, task, files, out, err, state)
 }
 
 /// Does what the words ask for, the first being the program's name: reads and writes the files, prints to `out` and

@@ -16,7 +16,7 @@ use Rattle.command_line.specs.declared.tasks.Invocation.TheVariants as invocatio
 use Rattle.command_line.specs.declared.tasks.LineFault.{LineFault}
 use Rattle.command_line.specs.declared.tasks.LineFault.TheVariants.{Line, Memory}
 use Rattle.command_line.specs.declared.tasks.Task.{Task}
-use Rattle.command_line.specs.CommandLine.{AreLimits, Gives, IsCommand, IsLimitOfFacts, IsTask, IsTaskOf, IsTelling, IsToldBy, NamesTask, Refuses, draws_facts, elc_app, tells_progress}
+use Rattle.command_line.specs.CommandLine.{AreLimits, Gives, IsCommand, IsLimitOfFacts, IsLining, IsTask, IsTaskOf, IsTelling, IsToldBy, NamesTask, Refuses, draws_facts, elc_app, tells_progress}
 use Rattle.program.specs.declared.limits.Limits.{Limits}
 use Rattle.program.specs.declared.question.Question.TheVariants.{DirectTypes, Groups, Lacks, Names, Types, Unsatisfiable, Why}
 use Rattle.program.specs.declared.question.Related.TheVariants.{Equivalents, Instances, Subclasses, Superclasses}
@@ -30,7 +30,7 @@ draws name = not (bytes_eq name (codes "check") || bytes_eq name (codes "convert
 abbrev tells : Text → Bool
 tells name = bytes_eq name (codes "classify") || bytes_eq name (codes "check") || bytes_eq name (codes "session")
 
--- the name of a command says both of it
+-- the name of a command says all this of it
 abbrev SaidBy : Text → Command → Type 0
 SaidBy name command = (draws_facts command ≡ draws name) × (tells_progress command ≡ tells name)
 
@@ -70,6 +70,14 @@ no_telling name rows entered command here is none task h =
     let asked : IsTask name rows task = subst P same h.is in
     let Q : Bool → Type 0 = λ tells. IsTelling tells rows task.progress in
     none task.progress (subst Q (one_tells name rows task.command command asked.command is) asked.progress)
+
+-- where it has none that says whether lines and columns are told there is none, either
+pub no_lining : (name : Text) (rows : List Row) (entered : Option (Text × List Row)) → entered ≡ Some (name, rows) → ((told : Bool) → IsLining rows told → ⊥) → (task : Task) → NamesTask entered task → ⊥
+no_lining name rows entered here none task h =
+    let same : (h.name, h.rows) ≡ (name, rows) = same_Some _ _ (sym h.found ∙ here) in
+    let P : Text × List Row → Type 0 = λ p. IsTask p.0 p.1 task in
+    let asked : IsTask name rows task = subst P same h.is in
+    none task.lines asked.lines
 
 -- where the command of the name has no limits there is no task
 pub no_limits : (name : Text) (rows : List Row) (entered : Option (Text × List Row)) (command : Command) → entered ≡ Some (name, rows) → IsCommand name rows command → ((limits : Limits) → AreLimits rows command limits → ⊥) → (task : Task) → NamesTask entered task → ⊥

@@ -89,17 +89,21 @@ profile = number (codes "profile") default_version (decimal default_version)
 abbrev pub format : Rule
 format = number (codes "format") default_format (decimal default_format)
 
+-- a word that may stand or not, as `--dot`
+abbrev pub flag : Text → Rule
+flag id = record (new_rule id) { long = Some id; action = Some SetTrue }
+
 -- `[--max-bytes N] [--profile N]`
 abbrev pub with_reading : App → App
 with_reading app = with_rule (with_rule app max_bytes) profile
 
--- `[--max-facts N] [--max-bytes N] [--profile N]`
-abbrev pub with_limits : App → App
-with_limits app = with_reading (with_rule app max_facts)
+-- `[--max-bytes N] [--profile N] [--lines]`
+abbrev pub with_lines : App → App
+with_lines app = with_rule (with_reading app) (flag (codes "lines"))
 
--- a word that may stand or not, as `--dot`
-abbrev pub flag : Text → Rule
-flag id = record (new_rule id) { long = Some id; action = Some SetTrue }
+-- `[--max-facts N] [--max-bytes N] [--profile N] [--lines]`
+abbrev pub with_limits : App → App
+with_limits app = with_lines (with_rule app max_facts)
 
 -- `[--progress]`
 abbrev pub with_progress : App → App
@@ -110,27 +114,27 @@ abbrev pub with_paths : App → App
 with_paths app =
     with_rule (with_rule (with_rule (with_rule app (path (codes "DOC"))) (path (codes "TAX"))) (path (codes "INST"))) (path (codes "CERT"))
 
--- `classify DOC TAX INST CERT [--format N] [--progress] [--max-facts N] [--max-bytes N] [--profile N]`
+-- `classify DOC TAX INST CERT [--format N] [--progress] [--max-facts N] [--max-bytes N] [--profile N] [--lines]`
 abbrev pub classify_app : App
 classify_app = with_limits (with_progress (with_rule (with_paths (new_app (codes "classify"))) format))
 
--- `check DOC TAX INST CERT [--progress] [--max-bytes N] [--profile N]`
+-- `check DOC TAX INST CERT [--progress] [--max-bytes N] [--profile N] [--lines]`
 abbrev pub check_app : App
-check_app = with_reading (with_progress (with_paths (new_app (codes "check"))))
+check_app = with_lines (with_progress (with_paths (new_app (codes "check"))))
 
 -- `DOC CERT OUT [--format N]`
 abbrev pub with_conversion : App → App
 with_conversion app = with_rule (with_rule (with_rule (with_rule app (path (codes "DOC"))) (path (codes "CERT"))) (path (codes "OUT"))) format
 
--- `convert DOC CERT OUT [--format N] [--max-bytes N] [--profile N]`
+-- `convert DOC CERT OUT [--format N] [--max-bytes N] [--profile N] [--lines]`
 abbrev pub convert_app : App
-convert_app = with_reading (with_conversion (new_app (codes "convert")))
+convert_app = with_lines (with_conversion (new_app (codes "convert")))
 
--- `restrict DOC OUT [--max-bytes N] [--profile N]`
+-- `restrict DOC OUT [--max-bytes N] [--profile N] [--lines]`
 abbrev pub restrict_app : App
-restrict_app = with_reading (with_rule (with_rule (new_app (codes "restrict")) (path (codes "DOC"))) (path (codes "OUT")))
+restrict_app = with_lines (with_rule (with_rule (new_app (codes "restrict")) (path (codes "DOC"))) (path (codes "OUT")))
 
--- `infer DOC OUT [--max-facts N] [--max-bytes N] [--profile N]`
+-- `infer DOC OUT [--max-facts N] [--max-bytes N] [--profile N] [--lines]`
 abbrev pub infer_app : App
 infer_app = with_limits (with_rule (with_rule (new_app (codes "infer")) (path (codes "DOC"))) (path (codes "OUT")))
 
@@ -142,11 +146,11 @@ with_certificates app = with_subcommand (with_subcommand (with_subcommand app cl
 abbrev pub with_documents : App → App
 with_documents app = with_subcommand (with_subcommand app restrict_app.top) infer_app.top
 
--- `[--short] [--max-facts N] [--max-bytes N] [--profile N]`
+-- `[--short] [--max-facts N] [--max-bytes N] [--profile N] [--lines]`
 abbrev pub with_answer : App → App
 with_answer app = with_limits (with_rule app (flag (codes "short")))
 
--- `WORD DOC CLASS [--short] [--max-facts N] [--max-bytes N] [--profile N]`
+-- `WORD DOC CLASS [--short] [--max-facts N] [--max-bytes N] [--profile N] [--lines]`
 abbrev pub class_app : (word : Text) → App
 class_app word = with_answer (with_rule (with_rule (new_app word) (path (codes "DOC"))) (path (codes "CLASS")))
 
@@ -160,11 +164,11 @@ with_related app =
 abbrev pub with_sides : App → App
 with_sides app = with_subcommand (with_subcommand app (class_app (side_word Above)).top) (class_app (side_word Below)).top
 
--- `types DOC INDIVIDUAL [--direct] [--short] [--max-facts N] [--max-bytes N] [--profile N]`
+-- `types DOC INDIVIDUAL [--direct] [--short] [--max-facts N] [--max-bytes N] [--profile N] [--lines]`
 abbrev pub types_app : App
 types_app = with_answer (with_rule (with_rule (with_rule (new_app (codes "types")) (path (codes "DOC"))) (path (codes "INDIVIDUAL"))) (flag (codes "direct")))
 
--- `unsatisfiable DOC [--short] [--max-facts N] [--max-bytes N] [--profile N]`
+-- `unsatisfiable DOC [--short] [--max-facts N] [--max-bytes N] [--profile N] [--lines]`
 abbrev pub unsatisfiable_app : App
 unsatisfiable_app = with_answer (with_rule (new_app (codes "unsatisfiable")) (path (codes "DOC")))
 
@@ -181,11 +185,11 @@ with_names app =
 abbrev pub with_flags : App → App
 with_flags app = with_rule (with_rule (with_rule app (flag (codes "dot"))) (flag (codes "reached"))) (flag (codes "axioms"))
 
--- `explain DOC SUB SUPER [--individual] [--dot] [--reached] [--axioms] [--short] [--max-facts N] [--max-bytes N] [--profile N]`
+-- `explain DOC SUB SUPER [--individual] [--dot] [--reached] [--axioms] [--short] [--max-facts N] [--max-bytes N] [--profile N] [--lines]`
 abbrev pub explain_app : App
 explain_app = with_answer (with_flags (with_names (new_app (codes "explain"))))
 
--- `lacks DOC SUB SUPER [--individual] [--short] [--max-facts N] [--max-bytes N] [--profile N]`
+-- `lacks DOC SUB SUPER [--individual] [--short] [--max-facts N] [--max-bytes N] [--profile N] [--lines]`
 abbrev pub lacks_app : App
 lacks_app = with_answer (with_names (new_app (codes "lacks")))
 
@@ -193,11 +197,11 @@ lacks_app = with_answer (with_names (new_app (codes "lacks")))
 abbrev pub with_reasons : App → App
 with_reasons app = with_subcommand (with_subcommand app explain_app.top) lacks_app.top
 
--- `query DOC EXPRESSION [--short] [--max-facts N] [--max-bytes N] [--profile N]`
+-- `query DOC EXPRESSION [--short] [--max-facts N] [--max-bytes N] [--profile N] [--lines]`
 abbrev pub query_app : App
 query_app = with_answer (with_rule (with_rule (new_app (codes "query")) (path (codes "DOC"))) (path (codes "EXPRESSION")))
 
--- `session DOC [--progress] [--max-facts N] [--max-bytes N] [--profile N]`
+-- `session DOC [--progress] [--max-facts N] [--max-bytes N] [--profile N] [--lines]`
 abbrev pub session_app : App
 session_app = with_limits (with_progress (with_rule (new_app (codes "session")) (path (codes "DOC"))))
 
@@ -293,6 +297,17 @@ IsCommand name rows (Query document expression spelling) =
     (name ≡ codes "query") × (first_of (codes "DOC") rows ≡ Some document.now) × (first_of (codes "EXPRESSION") rows ≡ Some expression.now) × IsSpelled rows spelling
 IsCommand name rows (Session document) = (name ≡ codes "session") × (first_of (codes "DOC") rows ≡ Some document.now)
 
+-- the path of the document of a command
+abbrev pub document_of : Command → Text
+document_of (Classify paths number) = paths.document.now
+document_of (Check paths) = paths.document.now
+document_of (Convert conversion) = conversion.document.now
+document_of (Restrict document output) = document.now
+document_of (Infer document output) = document.now
+document_of (Ask document question spelling) = document.now
+document_of (Query document expression spelling) = document.now
+document_of (Session document) = document.now
+
 -- a check, a conversion and a restriction draw no facts
 abbrev pub draws_facts : Command → Bool
 draws_facts (Check paths) = false
@@ -327,11 +342,16 @@ abbrev pub IsTelling : (tells : Bool) → List Row → Bool → Type 0
 IsTelling false rows told = told ≡ false
 IsTelling true rows told = IsFlag (codes "progress") rows told
 
+-- whether lines and columns are told: where the flag stands, which every command has
+abbrev pub IsLining : List Row → Bool → Type 0
+IsLining rows told = IsFlag (codes "lines") rows told
+
 -- the task is what a command's name and its matches say
 pub record IsTask (name : Text) (rows : List Row) (task : Task) : Type 0 where
   pub command : IsCommand name rows task.command
   pub limits : AreLimits rows task.command task.limits
   pub progress : IsTelling (tells_progress task.command) rows task.progress
+  pub lines : IsLining rows task.lines
 
 -- there is a command, and the task is what it says
 pub record NamesTask (entered : Option (Text × List Row)) (task : Task) : Type 0 where

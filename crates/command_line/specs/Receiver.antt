@@ -1,5 +1,5 @@
 -- The words of the program `elcheck`: those of a check as they stand, or behind `convert` those of a conversion.
-use Rattle.std.specs.Prelude.{◌≡◌, Bool, List, [], ◌∷◌, codes, drop, true, false, ⊤}
+use Rattle.std.specs.Prelude.{◌≡◌, Bool, List, ◌∷◌, codes, drop, true, false, ⊤}
 use Rattle.std.specs.Str.{bytes_eq}
 use Rattle.clap.specs.Words.{App, Row, Text, matches_of, takes}
 use Rattle.command_line.specs.CommandLine.{IsTask, check_app, convert_app}
@@ -39,7 +39,7 @@ command_of (requests.Convert conversion) = Convert conversion
 
 -- and within its limits, as a task of `elc`
 abbrev pub task_of : ReceiverTask → Task
-task_of t = record { command = command_of t.request; limits = t.limits; progress = t.progress }
+task_of t = record { command = command_of t.request; limits = t.limits; progress = t.progress; lines = t.lines }
 
 -- the task that a command's rules say of these rows
 abbrev pub IsRuledTask : (converts : Bool) → List Row → ReceiverTask → Type 0

@@ -3,7 +3,7 @@ ghost use Rattle.std.specs.Fmt.{decimal};
 ghost use Rattle.std.specs.Prelude.{◌≡◌, ◌||◌, IfOk, IsOkAnd, false};
 ghost use Rattle.clap.specs.Words.{app_of, rule_of, with_rule, with_subcommand as app_with_subcommand};
 ghost use Rattle.clap.specs.declared.builder.command.Command.TheViews.{out-Command as fields_of};
-ghost use Rattle.command_line.specs.CommandLine.{number, path, flag, max_facts, max_bytes, format, with_reading as app_with_reading, with_paths as app_with_paths, with_answer as app_with_answer, with_names as app_with_names, with_flags as app_with_flags, with_progress as app_with_progress, with_limits as app_with_limits, with_conversion as app_with_conversion, with_certificates as app_with_certificates, with_documents as app_with_documents, with_questions as app_with_questions, with_related as app_with_related, with_sides as app_with_sides, with_classes as app_with_classes, with_reasons as app_with_reasons, bare_app, check_app, class_app, classify_app, convert_app, explain_app, infer_app, lacks_app, query_app, restrict_app, session_app, types_app, unsatisfiable_app, elc_app};
+ghost use Rattle.command_line.specs.CommandLine.{number, path, flag, max_facts, max_bytes, format, with_reading as app_with_reading, with_lines as app_with_lines, with_paths as app_with_paths, with_answer as app_with_answer, with_names as app_with_names, with_flags as app_with_flags, with_progress as app_with_progress, with_limits as app_with_limits, with_conversion as app_with_conversion, with_certificates as app_with_certificates, with_documents as app_with_documents, with_questions as app_with_questions, with_related as app_with_related, with_sides as app_with_sides, with_classes as app_with_classes, with_reasons as app_with_reasons, bare_app, check_app, class_app, classify_app, convert_app, explain_app, infer_app, lacks_app, query_app, restrict_app, session_app, types_app, unsatisfiable_app, elc_app};
 
 use clap::{Arg, ArgAction, Command, value_parser};
 use program::{MOST_BYTES, MOST_BYTES_TEXT, MOST_FACTS, MOST_FACTS_TEXT, VERSION};
@@ -116,6 +116,8 @@ const PROGRESS_HELP: &str = "Tells on standard error what is being done, and how
 
 const PROFILE_HELP: &str = "The version of the profile that the document is read in, 1 or 2";
 
+const LINES_HELP: &str = "Tells the line and the column of each fault of the document";
+
 /// The command with one subcommand more, if that was made. If not, the command is let go by this one call, where each way out of the
 /// caller would else let each field go.
 fn with_subcommand<'a>(
@@ -186,24 +188,6 @@ fn one_or_two<'a>(alloc: Global, id: &'a str, help: &'a str) -> Arg<'a>
         .default_value("2")
 }
 
-/// The command with the options that say how the document is read.
-fn with_reading<'a>(alloc: Global, command: Command<'a>) -> Result<Command<'a>, AllocError>
-    ensures app { IfOk result (λ c. app_of c ≡ app_with_reading (app_of command.entry)) }
-    ensures local { (fields_of command.entry).has_globals ≡ false → IfOk result (λ c. (fields_of c).has_globals ≡ false) }
-{
-    command
-        .arg(max_bytes_option(alloc))?
-        .arg(one_or_two(alloc, "profile", PROFILE_HELP))
-}
-
-/// The command with its limits.
-fn with_limits<'a>(alloc: Global, command: Command<'a>) -> Result<Command<'a>, AllocError>
-    ensures app { IfOk result (λ c. app_of c ≡ app_with_limits (app_of command.entry)) }
-    ensures local { (fields_of command.entry).has_globals ≡ false → IfOk result (λ c. (fields_of c).has_globals ≡ false) }
-{
-    with_reading(alloc, command.arg(max_facts_option(alloc))?)
-}
-
 /// The command with one flag more.
 fn with_flag<'a>(
     alloc: Global,
@@ -220,6 +204,33 @@ fn with_flag<'a>(
             .action(ArgAction::SetTrue)
             .help(help),
     )
+}
+
+/// The command with the options that say how the document is read.
+fn with_reading<'a>(alloc: Global, command: Command<'a>) -> Result<Command<'a>, AllocError>
+    ensures app { IfOk result (λ c. app_of c ≡ app_with_reading (app_of command.entry)) }
+    ensures local { (fields_of command.entry).has_globals ≡ false → IfOk result (λ c. (fields_of c).has_globals ≡ false) }
+{
+    command
+        .arg(max_bytes_option(alloc))?
+        .arg(one_or_two(alloc, "profile", PROFILE_HELP))
+}
+
+/// The command with the options that say how the document is read, and the flag that says how its faults are told.
+fn with_lines<'a>(alloc: Global, command: Command<'a>) -> Result<Command<'a>, AllocError>
+    ensures app { IfOk result (λ c. app_of c ≡ app_with_lines (app_of command.entry)) }
+    ensures local { (fields_of command.entry).has_globals ≡ false → IfOk result (λ c. (fields_of c).has_globals ≡ false) }
+{
+    let command = with_reading(alloc, command)?;
+    with_flag(alloc, command, "lines", LINES_HELP)
+}
+
+/// The command with its limits.
+fn with_limits<'a>(alloc: Global, command: Command<'a>) -> Result<Command<'a>, AllocError>
+    ensures app { IfOk result (λ c. app_of c ≡ app_with_limits (app_of command.entry)) }
+    ensures local { (fields_of command.entry).has_globals ≡ false → IfOk result (λ c. (fields_of c).has_globals ≡ false) }
+{
+    with_lines(alloc, command.arg(max_facts_option(alloc))?)
 }
 
 /// The command with the flag that asks for progress.
@@ -256,7 +267,7 @@ pub(crate) fn check_command<'a>(alloc: Global) -> Result<Command<'a>, AllocError
     let command = Command::new(alloc, "check").about(CHECK_ABOUT);
     let command = with_paths(alloc, command)?;
     let command = with_progress(alloc, command)?;
-    with_reading(alloc, command)
+    with_lines(alloc, command)
 }
 
 /// The command with the document, the certificate, the file that is written, and its format.
@@ -276,7 +287,7 @@ pub(crate) fn convert_command<'a>(alloc: Global) -> Result<Command<'a>, AllocErr
 {
     let command = Command::new(alloc, "convert").about(CONVERT_ABOUT);
     let command = with_conversion(alloc, command)?;
-    with_reading(alloc, command)
+    with_lines(alloc, command)
 }
 
 fn restrict_command<'a>(alloc: Global) -> Result<Command<'a>, AllocError>
@@ -286,7 +297,7 @@ fn restrict_command<'a>(alloc: Global) -> Result<Command<'a>, AllocError>
     let command = Command::new(alloc, "restrict").about(RESTRICT_ABOUT);
     let command = with_path(alloc, command, "DOC", DOCUMENT_HELP)?;
     let command = with_path(alloc, command, "OUT", WRITTEN_HELP)?;
-    with_reading(alloc, command)
+    with_lines(alloc, command)
 }
 
 fn infer_command<'a>(alloc: Global) -> Result<Command<'a>, AllocError>

@@ -1,12 +1,12 @@
 //! What the words of the program `elcheck` ask for.
 ghost use Rattle.clap.specs.Words.{app_of, found_of, rows_of};
-ghost use Rattle.command_line.specs.CommandLine.{Finds, IsCommand};
+ghost use Rattle.command_line.specs.CommandLine.{Finds, IsCommand, document_of};
 ghost use Rattle.command_line.specs.Receiver.{IsReceiverTaskOf, IsRuledTask, RefusesReceiver, asks_conversion as asks, command_of as command_with, ruled_words as words_ruled, rules, rules_name};
 ghost use Rattle.std.specs.Prelude.{◌≡◌, IfErr, IfOk, map};
 
 use crate::command::{check_command, convert_command};
 use crate::tasks::{Command, Conversion, LineFault, Paths};
-use crate::words::{conversion, limits, paths, progress};
+use crate::words::{conversion, limits, lines, paths, progress};
 use clap::ArgMatches;
 use clap::error::ErrorKind;
 use program::Limits;
@@ -29,7 +29,19 @@ pub enum Request<'a> {
     Convert(Conversion<'a>),
 }
 
-/// What a receiver asks for, within which limits, and whether progress is told.
+impl<'a> Request<'a> {
+    /// The path of the document.
+    pub fn document(&self) -> &'a str
+        ensures { result.now ≡ document_of (command_with self.now) }
+    {
+        match self {
+            Request::Check(paths) => paths.document,
+            Request::Convert(conversion) => conversion.document,
+        }
+    }
+}
+
+/// What a receiver asks for, within which limits, whether progress is told, and how faults of the document are told.
 #[derive(Clone, Copy, PartialEq, Eq)]
 pub struct ReceiverTask<'a> {
     pub request: Request<'a>,
@@ -37,6 +49,8 @@ pub struct ReceiverTask<'a> {
     pub limits: Limits,
     /// Only a check tells it.
     pub progress: bool,
+    /// Whether faults of the document are told with their lines and columns.
+    pub lines: bool,
 }
 
 /// Whether the word behind the program's name is `convert`.
@@ -97,10 +111,12 @@ fn ruled_task<'a>(matches: &ArgMatches<'a>, converts: bool) -> Option<ReceiverTa
     let command = command_of(&request);
     let limits = limits(matches, &command)?;
     let progress = progress(matches, &command)?;
+    let lines = lines(matches)?;
     Some(ReceiverTask {
         request,
         limits,
         progress,
+        lines,
     })
 }
 

@@ -1,4 +1,6 @@
 //! Tasks, and why words are none.
+ghost use Rattle.command_line.specs.CommandLine.{document_of};
+ghost use Rattle.std.specs.Prelude.{◌≡◌};
 
 use program::{Limits, Question, Spelling};
 use thiserror::Error;
@@ -71,7 +73,24 @@ pub enum Command<'a> {
     },
 }
 
-/// What the program is asked to do, within which limits, and whether it tells its progress.
+impl<'a> Command<'a> {
+    /// The path of the document.
+    pub fn document(&self) -> &'a str
+        ensures { result.now ≡ document_of self.now }
+    {
+        match self {
+            Command::Classify { paths, .. } | Command::Check(paths) => paths.document,
+            Command::Convert(conversion) => conversion.document,
+            Command::Restrict { document, .. }
+            | Command::Infer { document, .. }
+            | Command::Ask { document, .. }
+            | Command::Query { document, .. }
+            | Command::Session { document } => document,
+        }
+    }
+}
+
+/// What the program is asked to do, within which limits, whether it tells its progress, and how it tells faults of the document.
 #[derive(Clone, Copy, PartialEq, Eq)]
 pub struct Task<'a> {
     pub command: Command<'a>,
@@ -79,6 +98,8 @@ pub struct Task<'a> {
     pub limits: Limits,
     /// Only a classification, a check and a session tell it.
     pub progress: bool,
+    /// Whether faults of the document are told with their lines and columns.
+    pub lines: bool,
 }
 
 /// What the words of the program ask for.

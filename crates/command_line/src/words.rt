@@ -1,7 +1,7 @@
 //! Reads the program's words.
 ghost use Rattle.std.specs.Prelude.{◌≡◌, IfOk, IfErr, codes, map, option_map, true};
 ghost use Rattle.clap.specs.Words.{subcommand_rows_of, rows_of, found_of, first_of};
-ghost use Rattle.command_line.specs.CommandLine.{AreLimits, ArePaths, IsAsked, IsCommand, IsConversion, IsFlag, IsFormat, IsNumber, IsQuestion, IsSpelled, IsTelling, IsToldBy, IsVersion, NamesTask, Finds, Gives, Refuses, draws_facts as draws, tells_progress as tells};
+ghost use Rattle.command_line.specs.CommandLine.{AreLimits, ArePaths, IsAsked, IsCommand, IsConversion, IsFlag, IsFormat, IsLining, IsNumber, IsQuestion, IsSpelled, IsTelling, IsToldBy, IsVersion, NamesTask, Finds, Gives, Refuses, draws_facts as draws, tells_progress as tells};
 
 use crate::command::elc_command;
 use crate::tasks::{Command, Conversion, FormatNumber, Invocation, LineFault, Paths, Task};
@@ -201,6 +201,13 @@ pub(crate) fn progress(inner: &ArgMatches<'_>, command: &Command<'_>) -> Option<
     }
 }
 
+/// Whether faults of the document are told with their lines and columns.
+pub(crate) fn lines(inner: &ArgMatches<'_>) -> Option<bool>
+    ensures { Finds (IsLining (rows_of (found_of inner.now))) result }
+{
+    flag(inner, "lines")
+}
+
 /// The command of that name.
 fn named<'a>(name: &str, inner: &ArgMatches<'a>) -> Option<Command<'a>>
     ensures { Finds (IsCommand name.now (rows_of (found_of inner.now))) result }
@@ -246,10 +253,12 @@ fn entered<'a>(matches: &ArgMatches<'a>) -> Option<Task<'a>>
     let command = named(name, inner)?;
     let limits = limits(inner, &command)?;
     let progress = progress(inner, &command)?;
+    let lines = lines(inner)?;
     Some(Task {
         command,
         limits,
         progress,
+        lines,
     })
 }
 

@@ -38,6 +38,22 @@ fn write_and_read_back<R: AllocGlobal + Abort, F: Files>(
     Ok(())
 }
 
+/// What is given back of a file is read again once, by a source of that file alone.
+fn read_what_is_given_back<R: AllocGlobal + Abort, F: Files>(
+    rt: &R,
+    files: &F,
+    given: &[u8],
+    held: &[u8],
+) -> Result<(), Fail> {
+    files.give_back(PATH, given.to_vec(rt.alloc())?)?;
+    assert!(rt; read(rt, files, "system_files_unmade.txt")?.err() == Some(ReadFault::Failed));
+    let again = read(rt, files, PATH)??;
+    assert!(rt; again.as_slice() == given);
+    let then = read(rt, files, PATH)??;
+    assert!(rt; then.as_slice() == held);
+    Ok(())
+}
+
 /// A file is made at its first write, and not before.
 fn write_nothing<R: AllocGlobal + Abort, F: Files>(rt: &R, files: &mut F) -> Result<(), Fail> {
     let path = "system_files_unmade.txt";
@@ -68,6 +84,7 @@ fn open_what_is_no_file<R: AllocGlobal + Abort, F: Files>(
 fn files_of_the_system(rt: HostRuntime) -> Result<(), Fail> {
     let mut files = SystemFiles::new(&rt, rt.stdin());
     write_and_read_back(&rt, &mut files)?;
+    read_what_is_given_back(&rt, &files, b"given back\n", b"short\n")?;
     fs::remove_file(&rt, PATH)?;
     write_nothing(&rt, &mut files)?;
     open_what_is_no_file(&rt, &mut files)

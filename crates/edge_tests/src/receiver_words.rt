@@ -21,6 +21,7 @@ struct Row {
     max_bytes: u64,
     version: Version,
     progress: bool,
+    lines: bool,
 }
 
 /// `convert` is a word of its own right behind the program's name alone.
@@ -31,13 +32,15 @@ const ROWS: &[Row] = &[
         max_bytes: MOST_BYTES,
         version: Version::Two,
         progress: false,
+        lines: false,
     },
     Row {
-        line: "elcheck --profile 1 a.ofn a.tax --progress a.inst --max-bytes=1000 a.cert",
+        line: "elcheck --profile 1 a.ofn a.tax --progress --lines a.inst --max-bytes=1000 a.cert",
         request: CHECK,
         max_bytes: 1000,
         version: Version::One,
         progress: true,
+        lines: true,
     },
     Row {
         line: "elcheck a.ofn convert a.inst a.cert",
@@ -50,6 +53,7 @@ const ROWS: &[Row] = &[
         max_bytes: MOST_BYTES,
         version: Version::Two,
         progress: false,
+        lines: false,
     },
     Row {
         line: "elcheck convert a.ofn a.cert b.cert",
@@ -62,9 +66,10 @@ const ROWS: &[Row] = &[
         max_bytes: MOST_BYTES,
         version: Version::Two,
         progress: false,
+        lines: false,
     },
     Row {
-        line: "elcheck convert --format 1 a.ofn a.cert --max-bytes 7 b.cert --profile=1",
+        line: "elcheck convert --format 1 a.ofn a.cert --max-bytes 7 --lines b.cert --profile=1",
         request: Request::Convert(Conversion {
             document: "a.ofn",
             certificate: "a.cert",
@@ -74,6 +79,7 @@ const ROWS: &[Row] = &[
         max_bytes: 7,
         version: Version::One,
         progress: false,
+        lines: true,
     },
 ];
 
@@ -87,9 +93,10 @@ fn is_taken(alloc: Global, row: &Row) -> Result<bool, AllocError> {
         request: row.request,
         limits,
         progress: row.progress,
+        lines: row.lines,
     };
     match receiver_task(alloc, &words) {
-        Ok(taken) => Ok(taken == task),
+        Ok(taken) => Ok(taken == task && taken.request.document() == "a.ofn"),
         Err(_) => Ok(false),
     }
 }

@@ -391,7 +391,7 @@ fn taken<'a>(alloc: Global, words: &'a [&'a str]) -> Option<Task<'a>> {
     }
 }
 
-/// Whether the words give the command within the limits, without progress.
+/// Whether the words give the command within the limits, without progress and lines.
 fn is_taken(alloc: Global, row: &Row) -> bool {
     let Some(limits) = Limits::new(row.max_bytes, row.max_facts, row.version) else {
         return false;
@@ -400,6 +400,7 @@ fn is_taken(alloc: Global, row: &Row) -> bool {
         command: row.command,
         limits,
         progress: false,
+        lines: false,
     };
     taken(alloc, row.words) == Some(wanted)
 }
@@ -528,7 +529,8 @@ const SHORT_QUESTIONS: &[(&str, Question<'static>)] = &[
     ),
 ];
 
-/// Whether the line asks this of the document, with names spelled so, within the greatest limits and without progress.
+/// Whether the line asks this of the document, with names spelled so, within the greatest limits, without progress
+/// and lines.
 fn asks(
     alloc: Global,
     line: &str,
@@ -547,6 +549,7 @@ fn asks(
         },
         limits,
         progress: false,
+        lines: false,
     };
     Ok(taken(alloc, &words) == Some(wanted))
 }
@@ -636,6 +639,9 @@ const REFUSED: &[&str] = &[
     "elc restrict a b c",
     "elc restrict a b --max-facts 1",
     "elc restrict a b --max-bytes 0",
+    "elc restrict a b --lines --lines",
+    "elc check a b c d --lines --lines",
+    "elc session a --lines=true",
     "elc infer",
     "elc infer a",
     "elc infer a b c",
@@ -839,6 +845,10 @@ const TOLD: &[(&str, &str)] = &[
     ),
     ("elc infer --help", "infer [OPTIONS] <DOC> <OUT>"),
     (
+        "elc session --help",
+        "Tells the line and the column of each fault of the document",
+    ),
+    (
         "elc --help",
         "Writes the inferred axioms of DOC as a document to OUT",
     ),
@@ -933,4 +943,41 @@ fn progress_where_its_flag_stands(rt: HostRuntime) {
         let (words, progress) = *row;
         assert!(rt; progress_of(rt.alloc(), words) == Some(progress));
     }
+}
+
+/// Lines of words, and whether they ask for lines and columns.
+const ASKED_LINES: &[(&str, bool)] = &[
+    ("elc classify a b c d --lines", true),
+    ("elc classify a b c d", false),
+    ("elc check --lines a b c d", true),
+    ("elc convert a b c --lines --format 1", true),
+    ("elc infer a b --lines", true),
+    ("elc instances a b --lines", true),
+    ("elc explain a b c --axioms --lines", true),
+    ("elc lacks a b c --lines", true),
+    ("elc types a b --lines --direct", true),
+    ("elc unsatisfiable --lines a", true),
+    ("elc query a b --lines", true),
+    ("elc query a b", false),
+    ("elc session a --progress --lines", true),
+    ("elc restrict a b --lines", true),
+    ("elc restrict a b", false),
+];
+
+/// What the task of the words says of lines, and the path of its document, where they give one.
+fn lined(alloc: Global, line: &str) -> Result<Option<(bool, bool)>, AllocError> {
+    let words: Vec<&str> = line.split(' ').collect(alloc)?;
+    match taken(alloc, &words) {
+        Some(task) => Ok(Some((task.lines, task.command.document() == "a"))),
+        None => Ok(None),
+    }
+}
+
+#[test]
+fn lines_where_their_flag_stands(rt: HostRuntime) -> Result<(), Fail> {
+    for row in ASKED_LINES {
+        let (line, lines) = *row;
+        assert!(rt; lined(rt.alloc(), line)? == Some((lines, true)), "{line}");
+    }
+    Ok(())
 }

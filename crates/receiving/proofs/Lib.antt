@@ -9,6 +9,8 @@ pub mod Spelled
 pub mod Converted
 pub mod NotDone
 pub mod OneTask
+pub mod ByLines
+pub mod Refusals
 pub mod AcceptedRight
 pub mod FilesRight
 pub mod Received

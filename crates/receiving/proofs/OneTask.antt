@@ -3,10 +3,14 @@ use Rattle.std.proofs.Common.{◌≡◌, List, Bool, true, false, codes, refl}
 use Rattle.lemmas.proofs.Choices.{one_value}
 use Rattle.clap.specs.Words.{Row, Text}
 use Rattle.command_line.proofs.Numbers.{one_number}
-use Rattle.command_line.specs.CommandLine.{ArePaths, IsFormat, IsFlag, IsVersion, format_number, version_number}
+use Rattle.command_line.specs.CommandLine.{ArePaths, IsCommand, IsFormat, IsFlag, IsVersion, format_number, version_number}
+use Rattle.command_line.specs.Receiver.{command_of, rules_name}
+use Rattle.command_line.specs.declared.receiver.Request.{Request}
+use Rattle.command_line.specs.declared.receiver.Request.TheVariants.{Check, Convert}
 use Rattle.command_line.specs.declared.tasks.FormatNumber.{FormatNumber}
 use Rattle.command_line.specs.declared.tasks.FormatNumber.TheVariants as numbers
 use Rattle.command_line.specs.declared.tasks.Paths.{Paths}
+use Rattle.receiving.specs.Receiver.{is_conversion}
 use Rattle.receiving.specs.Theorems.{AreSamePaths}
 use Rattle.program.specs.declared.version.Version.{Version}
 use Rattle.program.specs.declared.version.Version.TheVariants.{One, Two}
@@ -46,3 +50,9 @@ one_flag id rows true true h k = refl
 one_flag id rows false false h k = refl
 one_flag id rows true false h k = let bad : codes "true" ≡ codes "false" = one_value _ _ _ h k in cc
 one_flag id rows false true h k = let bad : codes "false" ≡ codes "true" = one_value _ _ _ h k in cc
+
+-- by the rules of a check no conversion is asked for
+pub not_converting : (converts : Bool) (rows : List Row) (request : Request) → converts ≡ false → IsCommand (rules_name converts) rows (command_of request) → is_conversion request ≡ false
+not_converting converts rows (Check paths) none is = refl
+not_converting true rows (Convert conversion) none is = none
+not_converting false rows (Convert conversion) none is = let bad : codes "check" ≡ codes "convert" = is.0 in absurd (cc)

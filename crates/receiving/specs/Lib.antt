@@ -4,6 +4,8 @@ pub mod Conversions
 pub mod Files
 pub mod HeldTexts
 pub mod Runs
+pub mod Places
+pub mod Lines
 pub mod Receiver
 pub mod Starts
 pub mod Theorems

@@ -11,6 +11,7 @@ use Rattle.command_line.specs.declared.tasks.LineFault.TheVariants as line
 use Rattle.command_line.specs.declared.tasks.Paths.{Paths}
 use Rattle.receiving.specs.Checks.{IsCheckAnswer}
 use Rattle.receiving.specs.Files.{Store}
+use Rattle.receiving.specs.Lines.{RunsByLines}
 use Rattle.receiving.specs.Messages.{IsLineTold}
 use Rattle.receiving.specs.Receiver.{IsReceiverRun}
 use Rattle.receiving.specs.Runs.{IsCheckRun}
@@ -56,12 +57,14 @@ AcceptedFilesAreRight =
 -- ---- runs of `elcheck`
 
 -- a run of `elcheck` whose words ask for a check of these paths is a run of `check` on the same paths within the limits that the words
--- set, behind its progress; or memory was refused for reading the words
+-- set, behind its progress, where they ask for lines only if the document is readable, and else that is told; or memory was refused for
+-- reading the words
 abbrev pub WordsOfElcheckCheck : Type 0
 WordsOfElcheckCheck =
     (words : List Text) (task : ReceiverTask) (paths : Paths) (s : Store) (content content' : Content) (old new : Output) (status : ℕ) →
     IsReceiverTaskOf words task → task.request ≡ Check paths → receiver_takes words ≡ true → IsReceiverRun words s content content' old new status →
-    BehindProgress task.progress old (λ begun. (paths' : Paths) × AreSamePaths paths paths' × IsCheckRun paths' task.limits.version task.limits.max_bytes s content begun new status)
+    RunsByLines task.lines paths.document.now task.limits.version task.limits.max_bytes s content content' old new status
+    (BehindProgress task.progress old (λ begun. (paths' : Paths) × AreSamePaths paths paths' × IsCheckRun paths' task.limits.version task.limits.max_bytes s content begun new status))
     ⊎ ((new.out ≡ old.out) × IsLineTold line.Memory old.err new.err status)
 
 -- texts in files that a run of `elcheck` with status 0 accepts, whoever made them, are right for the document there: its words ask for a

@@ -8,6 +8,8 @@ mod checking;
 mod converting;
 mod fault;
 mod formats;
+mod lines;
+mod places;
 mod printing;
 mod reading;
 mod receiver;
@@ -26,6 +28,7 @@ pub use command_line::{
 pub use converting::convert_certificate;
 pub use fault::{CheckFault, ConversionFault};
 pub use formats::format_of;
+pub use lines::{document_bytes, lined_faults, lined_message, read_by_lines};
 pub use profile::{DocumentFault, Limits, Version};
 pub use receiver::{perform, start};
 pub use run::{perform_check, perform_convert};

@@ -43,6 +43,10 @@ pub trait Files {
         ensures missing { IfOk result (λ source. IsMissing (is_known self.now) (content self.now path.now) → IsStuck (Self.In.left source) (Self.In.most source)) }
         ensures failures { IfOk result (λ source. Self.In.failures source ≡ 0) };
 
+    /// Gives back all the bytes that were read of the file at the path: the next source of that file gives them, where the file itself, as
+    /// a pipe, would not give them again. What the files hold stays the same.
+    fn give_back(&self, path: &str, bytes: Vec<u8>) -> Result<(), Memory>;
+
     /// A sink that has taken nothing and makes the file at the path anew, which fails where that is not allowed. The files
     /// hold what they did.
     fn writer(&mut self, path: &str) -> Result<Self::Out, Memory>

@@ -163,6 +163,10 @@ impl Files for MemoryFiles {
         }
     }
 
+    fn give_back(&self, _path: &str, _bytes: Vec<u8>) -> Result<(), Memory> {
+        Ok(())
+    }
+
     fn writer(&mut self, path: &str) -> Result<MemorySink, Memory> {
         let owned = String::from_str(self.alloc, path)?;
         self.add_place(path)?;

@@ -4,18 +4,28 @@ ghost use Rattle.system_files.specs.declared.system.TheConstants.{INPUT};
 
 use crate::files::Files;
 use device::{Failed, Memory, ReaderSource, Sink};
-use std::io::{Read, Stdin, Write};
+use std::cell::Cell;
+use std::io::{Cursor, Read, Stdin, Write};
 use std::{fs, io, rt};
 
 /// The path of standard input.
 const INPUT: &str = "/dev/stdin";
 
+/// Bytes that were read of the file at a path, and are to be read again.
+#[derive(Drop)]
+struct GivenBack {
+    path: String,
+    bytes: Vec<u8>,
+}
+
 /// The files of the system, by the runtime. What is read at the path `/dev/stdin` is the standard input that the process has, be it a
-/// file, a pipe, a terminal or a socket: it is not opened.
+/// file, a pipe, a terminal or a socket: it is not opened. What was given back is kept for the next source of its file alone, the last
+/// that was.
 #[derive(Drop)]
 pub struct SystemFiles<'r, R: rt::Files + AllocGlobal> {
     runtime: &'r R,
     input: Stdin,
+    given_back: Cell<Option<GivenBack>>,
     failed_writes: u64,
 }
 
@@ -28,6 +38,7 @@ impl<'r, R: rt::Files + AllocGlobal> SystemFiles<'r, R> {
         SystemFiles {
             runtime,
             input,
+            given_back: Cell::new(None),
             failed_writes: 0,
         }
     }
@@ -41,6 +52,16 @@ impl<'r, R: rt::Files + AllocGlobal> SystemFiles<'r, R> {
         } else {
             None
         }
+    }
+
+    /// What was given back of the file at the path, which is kept no longer.
+    fn given_back_at(&self, path: &str) -> Option<Cursor<Vec<u8>>> {
+        let given = self.given_back.replace(None)?;
+        if given.path.as_str() == path {
+            return Some(Cursor::new(given.bytes));
+        }
+        self.given_back.set(Some(given));
+        None
     }
 
     fn owned(&self, path: &str) -> Result<String, Memory>
@@ -82,10 +103,17 @@ impl<'r, R: rt::Files + AllocGlobal> Files for SystemFiles<'r, R> {
         let file = FileReader {
             runtime: self.runtime,
             path: self.owned(path)?,
+            given_back: self.given_back_at(path),
             input: self.input_at(path),
             file: None,
         };
         Ok(ReaderSource::new(file))
+    }
+
+    fn give_back(&self, path: &str, bytes: Vec<u8>) -> Result<(), Memory> {
+        let path = self.owned(path)?;
+        self.given_back.set(Some(GivenBack { path, bytes }));
+        Ok(())
     }
 
     fn writer(&mut self, path: &str) -> Result<Self::Out, Memory> {
@@ -103,17 +131,22 @@ impl<'r, R: rt::Files + AllocGlobal> Files for SystemFiles<'r, R> {
     }
 }
 
-/// A reader of the file at a path, which is opened at the first read; or of standard input, which is open.
+/// A reader of the file at a path, which is opened at the first read; or of what was given back of it, or of standard input, which is
+/// open.
 #[derive(Drop)]
 pub struct FileReader<'r, R: rt::Files> {
     runtime: &'r R,
     path: String,
+    given_back: Option<Cursor<Vec<u8>>>,
     input: Option<Stdin>,
     file: Option<R::File>,
 }
 
 impl<'r, R: rt::Files> Read for FileReader<'r, R> {
     fn read(&mut self, buffer: &mut [u8]) -> io::Result<usize> {
+        if let Some(bytes) = &mut self.given_back {
+            return bytes.read(buffer);
+        }
         if let Some(input) = &mut self.input {
             return input.read(buffer);
         }

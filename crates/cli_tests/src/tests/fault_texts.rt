@@ -253,7 +253,10 @@ fn restriction_faults_are_shown(alloc: Global) -> Result<bool, AllocError> {
     Ok(
         is_shown(
             alloc,
-            RestrictionFault::Document(DocumentFault::TooLarge),
+            RestrictionFault::Document {
+                fault: DocumentFault::TooLarge,
+                bytes: Vec::new(alloc),
+            },
             "U2",
         )? && is_shown(alloc, RestrictionFault::Unwritten, "the text's sink failed")?,
     )

@@ -5,7 +5,7 @@ use super::formats::changed_to_two;
 use super::*;
 
 /// A run of `elcheck`.
-fn received<R: AllocGlobal + RandomSource, F: Files>(
+pub(super) fn received<R: AllocGlobal + RandomSource, F: Files>(
     rt: &R,
     words: &[&str],
     files: &mut F,

@@ -1,4 +1,4 @@
-use Rattle.std.proofs.Common.{◌≡◌, ◌∙◌, ℕ, List, subst}
+use Rattle.std.proofs.Common.{◌∙◌, ℕ, List, subst}
 use Rattle.receiving.proofs.Counted.{IsCounted}
 use Rattle.cli.proofs.FiledInference.{inference_begun}
 use Rattle.receiving.proofs.Stored.{one_left}

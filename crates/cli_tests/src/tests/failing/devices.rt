@@ -117,6 +117,10 @@ impl Files for FailingFiles {
         })
     }
 
+    fn give_back(&self, path: &str, bytes: Vec<u8>) -> Result<(), Memory> {
+        self.inner.give_back(path, bytes)
+    }
+
     fn writer(&mut self, path: &str) -> Result<Self::Out, Memory> {
         let writes = self.calls_of(path);
         Ok(FailingFileSink {

@@ -1,5 +1,0 @@
-use Rattle.cli.proofs.RestrictedRuns.{restricted_runs}
-use Rattle.cli.proofs.what_is_restricted.Goals as goal
-
-pub returns : goal.returns
-returns c = restricted_runs

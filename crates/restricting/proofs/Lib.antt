@@ -1,0 +1,3 @@
+pub mod Lined
+pub mod Restricted
+pub mod RestrictedRuns

@@ -1,0 +1,22 @@
+use Rattle.std.proofs.Common.{◌≡◌, Err, Result, refl, sym, subst}
+use Rattle.telling.proofs.Telling.{told}
+use Rattle.restricting.specs.Runs.{IsRestrictTold}
+use Rattle.telling.specs.Printing.{Output}
+use Rattle.telling.specs.Messages.{cannot_write}
+use Rattle.restricting.specs.declared.fault.RestrictionFault.{RestrictionFault}
+use Rattle.program.specs.declared.status.Status.TheVariants as statuses
+use Rattle.statements_text.specs.declared.restriction.Restriction.{Restriction}
+use Rattle.restricting.proofs.run.tell_restricted.Goals as goal
+
+pub returns-in-Err-Unwritten : goal.returns-in-Err-Unwritten
+returns-in-Err-Unwritten g c =
+    let path = c.args.path.now in
+    let output = c.args.output.now in
+    let bytes = c.args.limits.now.max_bytes in
+    let tell = c.tell-in-Err-Unwritten in
+    let old : Output = record { out = (g.O.Sink.taken c.args.out.now, g.O.Sink.failures c.args.out.now); err = (g.E.Sink.taken c.args.err.now, g.E.Sink.failures c.args.err.now) } in
+    let new : Output = record { out = old.out; err = (g.E.Sink.taken tell.new.err, g.E.Sink.failures tell.new.err) } in
+    let P : Result Restriction RestrictionFault → Type 0 = λ answer. IsRestrictTold c.args.lines path output bytes answer old new tell.result in
+    let Q : RestrictionFault → Type 0 = λ fault. IsRestrictTold c.args.lines path output bytes (Err fault) old new tell.result in
+    subst P (sym c.in-Err-Unwritten.is) (subst Q (sym c.in-Err-Unwritten.field-0-is)
+    (refl, told old.err new.err c.unwritten_message.result (λ text. text ≡ cannot_write output) statuses.File tell.result c.unwritten_message.ensures tell.ensures))

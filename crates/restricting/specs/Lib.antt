@@ -1,0 +1,4 @@
+pub mod Reports
+pub mod Restrictions
+pub mod Runs
+pub mod Theorems
