@@ -18,6 +18,8 @@ mod documents;
 #[cfg(test)]
 mod endings;
 #[cfg(test)]
+mod entailments;
+#[cfg(test)]
 mod explanations;
 #[cfg(test)]
 mod generated_parts;

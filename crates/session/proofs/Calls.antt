@@ -18,7 +18,7 @@ use Rattle.program.specs.declared.version.Version.{Version}
 use Rattle.shapes.specs.Faults.{axiom_faults, document_faults}
 use Rattle.session.proofs.AnyVersion.{document_states, texts_state}
 use Rattle.session.specs.Additions.{IsAddition}
-use Rattle.session.specs.Edits.{Call, Add, Resume, Ask, Query, Decide, Write, Infer, Reply, Added, Resumed, Answered, Found, Decided, Written, Inferred, IsCall, AreCalls, IsSessionOver, IsOneDocument, AreStatedBy, HasAccepted, AreEditedAlike, accepted, added, bytes_of, EditsAreOneDocument, AcceptedAlikeEndAlike}
+use Rattle.session.specs.Edits.{Call, Add, Resume, Ask, Query, Entail, Decide, Write, Infer, Reply, Added, Resumed, Answered, Found, Entailed, Decided, Written, Inferred, IsCall, AreCalls, IsSessionOver, IsOneDocument, AreStatedBy, HasAccepted, AreEditedAlike, accepted, added, bytes_of, EditsAreOneDocument, AcceptedAlikeEndAlike}
 use Rattle.session.specs.Sessions.{IsSession, KeepsText, Opened}
 
 -- ---- texts one behind the other
@@ -108,6 +108,8 @@ one_call version bytes texts old (Ask question) (Answered (Ok answer)) new h is 
 one_call version bytes texts old (Ask question) (Answered (Err fault)) new h is session = stays version bytes texts old new h is.1
 one_call version bytes texts old (Query text most) (Found (Ok found)) new h is session = stays version bytes texts old new h is.1
 one_call version bytes texts old (Query text most) (Found (Err fault)) new h is session = stays version bytes texts old new h is.1
+one_call version bytes texts old (Entail text most) (Entailed (Ok entailed)) new h is session = stays version bytes texts old new h is.1
+one_call version bytes texts old (Entail text most) (Entailed (Err fault)) new h is session = stays version bytes texts old new h is.1
 one_call version bytes texts old Decide (Decided answer) new h is session = stays version bytes texts old new h is.1
 one_call version bytes texts old (Write format before) (Written after answer) new h is session = stays version bytes texts old new h is.1
 one_call version bytes texts old Infer (Inferred (Ok (summary, text))) new h is session = stays version bytes texts old new h is.2

@@ -1,14 +1,12 @@
 -- What is said of an expression that was read, and of the ontology that has grown by it.
-use Rattle.std.proofs.Common.{◌≡◌, ◌<◌, ℕ, List, [], ◌∷◌, Option, inl, inr, length, refl, sym, ap, subst, arith}
+use Rattle.std.proofs.Common.{◌≡◌, ◌<◌, ℕ, List, [], ◌∷◌, Option, length, refl, sym, ap, subst, arith}
 use Rattle.std.specs.Option.{unwrap_or}
-use Rattle.std.proofs.lemmas.Option.{none-some, slice_get_within}
+use Rattle.std.proofs.lemmas.Option.{slice_get_within}
 use Rattle.answers.specs.Names.{AreThose}
 use Rattle.axioms.proofs.Trees.{length_trees}
 use Rattle.axioms.specs.Axiom.{Axiom}
 use Rattle.axioms.specs.Expression.{ClassExpression, Named}
-use Rattle.axioms.specs.Growth.{Numbers}
 use Rattle.axioms.specs.Ontology.{Names, Ontology, axiom_trees, expression, trees}
-use Rattle.closure.specs.Closure.{Expression, IsRoot, question}
 use Rattle.engine.specs.Saturations.{IsFinished}
 use Rattle.fs_parser.specs.Name.{Prefixes}
 use Rattle.interpretation_spec.specs.Interpretation.{IsBelow, IsMember}
@@ -72,16 +70,6 @@ module _ (version : Version) (prefixes : Prefixes) (text : List ℕ) (old new : 
   are_answers found =
       let same : expression new e ≡ class_of is.tree = ap (λ (there : Option ClassExpression). unwrap_or there (Named [])) is.added.at in
       same_answers old new (class_of is.tree) (expression new e) found is.added.names is.added.axioms same
-
--- what is asked about where nothing was is asked about alone
-pub asked_alone : (old new : List ℕ) (e n : ℕ) → old ≡ [] → Numbers old e new n → new ≡ e ∷ []
-asked_alone [] new e n none (inl at) = absurd (none-some e at.0)
-asked_alone [] new e n none (inr next) = next.2
-asked_alone (x ∷ xs) new e n none h = cc
-
--- what is asked about alone, and is there, is a root
-pub is_root : (o : Ontology) (e : ℕ) (asked : List ℕ) → e < length o.nodes → asked ≡ e ∷ [] → IsRoot o asked (Expression e)
-is_root o e asked there same = subst (λ (es : List ℕ). IsRoot o es (Expression e)) (sym same) (question e there (0, omega arith, refl))
 
 -- ---- what a session says
 

@@ -6,6 +6,8 @@ pub mod Counting
 pub mod AtEnd
 pub mod Growing
 pub mod Expressions
+pub mod NewNames
+pub mod EntailedTexts
 pub mod AnyVersion
 pub mod Calls
 pub mod FactNumber

@@ -29,10 +29,12 @@ use Rattle.program.specs.declared.version.Version.{Version}
 use Rattle.session.specs.Additions.{IsAddition, IsRefusedAddition}
 use Rattle.session.specs.Answers.{IsAskRefusal, IsDecided, IsMade, IsQuestioned, IsUnmade, IsWritten}
 use Rattle.session.specs.Classifications.{IsClassified}
+use Rattle.session.specs.Entailments.{IsEntailment, IsEntailmentRefusal}
 use Rattle.session.specs.Inferences.{IsInferred}
 use Rattle.session.specs.Queries.{IsQueryAnswer, IsQueryRefusal, NamesFound}
 use Rattle.session.specs.Sessions.{IsOpen, IsSession, KeepsText, Opened, as_read}
 use Rattle.session.specs.WrittenTexts.{Sinks, Texts}
+use Rattle.session.specs.declared.entails_fault.EntailsFault.{EntailsFault}
 use Rattle.session.specs.declared.fault.AskFault.{AskFault}
 use Rattle.session.specs.declared.fault.WritingFault.{WritingFault}
 use Rattle.session.specs.declared.query_fault.QueryFault.{QueryFault}
@@ -40,13 +42,14 @@ use Rattle.shapes.specs.Faults.{axiom_faults, document_faults}
 
 -- ---- calls
 
--- what is asked of a session: to add, to run on, to answer, whether the axioms contradict one another, to write, with a certificate in a
+-- what is asked of a session: to add, to run on, to answer, whether axioms follow, whether its own contradict one another, to write, with a certificate in a
 -- format, to sinks that have taken so much, or to infer
 pub data Call : Type 0 where
   Add : (text : List ℕ) → Call
   Resume : (max_facts : ℕ) → Call
   Ask : (question : Question) → Call
   Query : (text : List ℕ) (max_facts : ℕ) → Call
+  Entail : (text : List ℕ) (max_facts : ℕ) → Call
   Decide : Call
   Write : (format : Format) (before : Sinks) → Call
   Infer : Call
@@ -57,6 +60,7 @@ pub data Reply : Type 0 where
   Resumed : Result (Unit {0}) Stop → Reply
   Answered : Result Answer AskFault → Reply
   Found : Result NamesFound QueryFault → Reply
+  Entailed : Result Bool EntailsFault → Reply
   Decided : Option Bool → Reply
   Written : (after : Sinks) → Result Summary WritingFault → Reply
   Inferred : Result (Summary × List ℕ) WritingFault → Reply
@@ -71,6 +75,8 @@ IsCall old (Ask question) (Answered (Ok answer)) new = IsQuestioned old (names_i
 IsCall old (Ask question) (Answered (Err fault)) new = IsAskRefusal old (names_in question) fault × (new ≡ old)
 IsCall old (Query text most) (Found (Ok found)) new = IsQueryAnswer old text most found × (new ≡ old)
 IsCall old (Query text most) (Found (Err fault)) new = IsQueryRefusal old text most fault × (new ≡ old)
+IsCall old (Entail text most) (Entailed (Ok entailed)) new = IsEntailment old text entailed × (new ≡ old)
+IsCall old (Entail text most) (Entailed (Err fault)) new = IsEntailmentRefusal old text most fault × (new ≡ old)
 IsCall old Decide (Decided answer) new = IsDecided old answer × (new ≡ old)
 IsCall old (Write format before) (Written after answer) new = IsWritten old format before after answer × (new ≡ old)
 IsCall old Infer (Inferred (Ok (summary, text))) new = IsFinished old.saturation × IsInferred old.ontology summary text × (new ≡ old)

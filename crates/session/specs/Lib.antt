@@ -5,6 +5,7 @@ pub mod Additions
 pub mod Answers
 pub mod FactCounts
 pub mod Queries
+pub mod Entailments
 pub mod Texts
 pub mod TextAnswers
 pub mod Run

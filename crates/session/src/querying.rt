@@ -1,9 +1,7 @@
 //! Class expressions that are asked about.
 ghost use Rattle.axioms.specs.Ontology.{expression};
-ghost use Rattle.engine.specs.Saturations.{HasMoreFactsThan, IsFinished, IsSaturated, IsSound, IsUnasked, as_ended};
+ghost use Rattle.engine.specs.Saturations.{HasMoreFactsThan, IsFinished};
 ghost use Rattle.inference.specs.declared.known_facts.Stop.TheVariants as stops;
-ghost use Rattle.normalise.specs.Growth.{Grows};
-ghost use Rattle.normalise.specs.Roots.{KeepsNames};
 ghost use Rattle.profile.specs.AddedTexts.{IsReadExpression};
 ghost use Rattle.session.specs.Additions.{IsWithin};
 ghost use Rattle.session.specs.FactCounts.{HasNoMoreFactsThan};
@@ -15,7 +13,8 @@ use crate::query_fault::QueryFault;
 use crate::session::Session;
 use answers::{Selection, selected};
 use axioms::{ExprId, Memory, Ontology};
-use engine::{Indexed, Saturation, Stop};
+use engine::{Indexed, Stop};
+use entailment::saturated_with;
 use profile::{DocumentFault, read_expression};
 
 /// What a query of a class expression gives: names, each list in byte order.
@@ -27,37 +26,6 @@ pub struct Answers<'s> {
     pub subclasses: Vec<&'s str>,
     /// The individuals that are members of it.
     pub instances: Vec<&'s str>,
-}
-
-/// A saturation of the ontology that has grown by the expression that is asked about, run to its end.
-fn saturated_with(
-    saturation: &Saturation,
-    old: &Ontology,
-    new: &Ontology,
-    expr: ExprId,
-    max_facts: u32,
-) -> Result<Saturation, Stop>
-    requires sound { IsSound old.now saturation.now }
-    requires grows { Grows old.now new.now (length old.now.axioms) }
-    requires names { KeepsNames old.now new.now }
-    requires there { expr.0 < length new.now.nodes }
-    requires finished { IsFinished saturation.now }
-    requires unasked { IsUnasked (as_ended saturation.now) }
-    ensures sound { IfOk result (IsSound new.now) }
-    ensures finished { IfOk result (λ s. IsFinished s) }
-    ensures saturated { IfOk result (λ s. IsSaturated new.now (as_ended s)) }
-    ensures asked { IfOk result (λ s. s.normal.asked ≡ expr.0 ∷ []) }
-    ensures within { IfOk result (λ s. length s.state.facts ≤ max_facts) }
-    ensures limit { result ≡ Err stops.Limit → HasMoreFactsThan new.now (expr.0 ∷ []) max_facts }
-{
-    let mut asked = saturation.asked(old, new, expr)?;
-    match asked.resume(max_facts) {
-        Ok(()) => Ok(asked),
-        Err(stop) => {
-            drop(asked);
-            Err(stop)
-        }
-    }
 }
 
 /// The names that the expression of the grown ontology has, which are names of the other one, too.

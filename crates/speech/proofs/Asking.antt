@@ -51,6 +51,7 @@ is_of_two verb subject class word words (asked.Ask (DirectTypes of) Full) other 
 is_of_two verb subject class word words (asked.Ask (DirectTypes of) Short) other e = absurd (cc)
 is_of_two verb subject class word words (asked.Ask (Lacks of in_class) spelling) other e = tt
 is_of_two verb subject class word words (asked.Query size) other e = absurd (cc)
+is_of_two verb subject class word words (asked.Entails size) other e = absurd (cc)
 is_of_two verb subject class word words (asked.Write paths) other e = let writes : verb ≡ codes "write" = cc in absurd (other writes)
 is_of_two verb subject class word words (asked.Infer path) other e = absurd (cc)
 is_of_two verb subject class word words (asked.Axiom number Full) other e = absurd (cc)

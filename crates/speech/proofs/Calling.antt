@@ -1,5 +1,5 @@
 -- Calls of a session, and what is told of them.
-use Rattle.std.proofs.Common.{◌≡◌, ◌∙◌, ◌⊎◌, [], ap, sym, ℕ, List, Result, Ok, Err, refl, subst, inl, inr, ⊎_elim, IfOk, IfErr}
+use Rattle.std.proofs.Common.{◌≡◌, ◌∙◌, ◌⊎◌, [], ap, sym, ℕ, Bool, List, Result, Ok, Err, refl, subst, inl, inr, ⊎_elim, IfOk, IfErr}
 use Rattle.std.specs.Str.{IsUtf8, IsValidUpTo}
 use Rattle.answers.specs.declared.answer.Answer.{Answer}
 use Rattle.profile.specs.declared.fault.DocumentFault.TheVariants.{NotUtf8}
@@ -9,9 +9,11 @@ use Rattle.program.specs.declared.question.Question.{Question}
 use Rattle.program.specs.declared.question.Spelling.{Spelling}
 use Rattle.program.specs.declared.status.Status.{Status}
 use Rattle.session.specs.Edits as edits
-use Rattle.session.specs.Edits.{Answered, Ask, Call, Found, IsCall, Query, Resume, Resumed, added}
+use Rattle.session.specs.Edits.{Answered, Ask, Call, Entail, Entailed, Found, IsCall, Query, Resume, Resumed, added}
+use Rattle.session.specs.Entailments.{IsEntailment, IsEntailmentRefusal}
 use Rattle.session.specs.Queries.{IsQueryAnswer, IsQueryRefusal, names_in as names_found}
 use Rattle.session.specs.Sessions.{Opened}
+use Rattle.session.specs.declared.entails_fault.EntailsFault.{EntailsFault}
 use Rattle.session.specs.declared.fault.AskFault.{AskFault}
 use Rattle.session.specs.declared.query_fault.QueryFault.{QueryFault}
 use Rattle.session.specs.declared.querying.Answers.{Answers}
@@ -47,6 +49,12 @@ pub query_call : (s : Opened) (text : List ℕ) (most : ℕ) (r : Result Answers
     → IsCall s (Query text most) (Found (found r)) s
 query_call s text most (Ok answers) exact refused = (exact, refl)
 query_call s text most (Err fault) exact refused = (refused, refl)
+
+-- axioms that may follow, and whether they do
+pub entail_call : (s : Opened) (text : List ℕ) (most : ℕ) (r : Result Bool EntailsFault) → IfOk r (IsEntailment s text) → IfErr r (IsEntailmentRefusal s text most)
+    → IsCall s (Entail text most) (Entailed r) s
+entail_call s text most (Ok entailed) exact refused = (exact, refl)
+entail_call s text most (Err fault) exact refused = (refused, refl)
 
 -- a question, and what is told of its answer
 pub asked : {X : Type 0} (limits : Limits) (s : Opened) (question : Question) (spelling : Spelling) (result : Result Answer AskFault) (r : Result Reply X) → IsCall s (Ask question) (Answered result) s

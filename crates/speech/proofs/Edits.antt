@@ -10,7 +10,7 @@ use Rattle.profile.specs.declared.fault.DocumentFault.TheVariants as reading
 use Rattle.session.proofs.Calls.{edits_are_one_document}
 use Rattle.telling.specs.Devices.{Device}
 use Rattle.session.specs.Edits as calls
-use Rattle.session.specs.Edits.{Call, Reply, Add, Added, Resumed, Answered, Found, Decided, Written, Inferred, AreCalls, IsCall, IsOneDocument, IsSessionOver, added}
+use Rattle.session.specs.Edits.{Call, Reply, Add, Added, Resumed, Answered, Found, Entailed, Decided, Written, Inferred, AreCalls, IsCall, IsOneDocument, IsSessionOver, added}
 use Rattle.session.specs.Sessions.{IsSession, Opened}
 use Rattle.session.specs.declared.question_fault.QuestionFault.TheVariants as faults
 use Rattle.speech.specs.Answers.{IsAnswerTold, IsFaultTold, IsStep, run_end, session_service}
@@ -59,6 +59,7 @@ add_tells limits size payload old new t (Added (Err fault)) h (inr (none, is)) =
 add_tells limits size payload old new t (Resumed answer) h told = absurd h
 add_tells limits size payload old new t (Answered answer) h told = absurd h
 add_tells limits size payload old new t (Found answer) h told = absurd h
+add_tells limits size payload old new t (Entailed answer) h told = absurd h
 add_tells limits size payload old new t (Decided answer) h told = absurd h
 add_tells limits size payload old new t (Written after answer) h told = absurd h
 add_tells limits size payload old new t (Inferred answer) h told = absurd h
@@ -72,6 +73,8 @@ does limits old new (asked.RunSome more) payload t h = Calls (calls.Resume (run_
 does limits old new (asked.Ask question spelling) payload t h = Calls (calls.Ask question) (Answered h.result) h.called refl
 does limits old new (asked.Query size) payload t (inl h) = Calls (calls.Query payload limits.max_facts) h.reply h.called refl
 does limits old new (asked.Query size) payload t (inr (at, none, valid, said)) = Stays said.0 refl
+does limits old new (asked.Entails size) payload t (inl h) = Calls (calls.Entail payload limits.max_facts) h.reply h.called refl
+does limits old new (asked.Entails size) payload t (inr (at, none, valid, said)) = Stays said.0 refl
 does limits old new (asked.Write paths) payload t (same, told) = Stays same refl
 does limits old new (asked.Infer path) payload t (same, told) = Stays same refl
 does limits old new (asked.Axiom number spelling) payload t (same, told) = Stays same refl
@@ -95,6 +98,7 @@ passed_adds room (Some asked.Run) payload = refl
 passed_adds room (Some (asked.RunSome more)) payload = refl
 passed_adds room (Some (asked.Ask question spelling)) payload = refl
 passed_adds room (Some (asked.Query size)) payload = refl
+passed_adds room (Some (asked.Entails size)) payload = refl
 passed_adds room (Some (asked.Write paths)) payload = refl
 passed_adds room (Some (asked.Infer path)) payload = refl
 passed_adds room (Some (asked.Axiom number spelling)) payload = refl

@@ -3,12 +3,14 @@ use Rattle.std.specs.Prelude.{◌≡◌, ◌++◌, ◌+◌, ◌-◌, ◌<◌, �
 use Rattle.std.specs.Fmt.{decimal}
 use Rattle.std.specs.Str.{IsUtf8, IsValidUpTo}
 use Rattle.std.specs.Global.{Vec}
+use Rattle.std.specs.String.{string_bytes}
 use Rattle.answer_texts.specs.Axioms.{axiom_line}
 use Rattle.answers.specs.declared.answer.Answer.{Answer}
 use Rattle.axioms.specs.Ontology.{Ontology}
 use Rattle.axioms.specs.View.{at_number}
 use Rattle.inference.specs.declared.known_facts.Stop.{Stop}
 use Rattle.inference.specs.declared.known_facts.Stop.TheVariants as stops
+use Rattle.profile.specs.declared.fault.DocumentFault.TheVariants as reading
 use Rattle.profile.specs.declared.fault.DocumentFault.TheVariants.{NotUtf8}
 use Rattle.program.specs.declared.limits.Limits.{Limits}
 use Rattle.program.specs.declared.question.Question.{Question}
@@ -16,10 +18,12 @@ use Rattle.program.specs.declared.question.Spelling.{Spelling}
 use Rattle.program.specs.declared.release.TheConstants.{VERSION}
 use Rattle.program.specs.declared.status.Status.TheVariants as statuses
 use Rattle.session.specs.Answers.{IsConsistency}
-use Rattle.session.specs.Edits.{Call, Reply, Add, Resume, Ask, Query, Added, Resumed, Answered, Found, IsCall, added}
+use Rattle.session.specs.Edits.{Call, Reply, Add, Resume, Ask, Query, Entail, Added, Resumed, Answered, Found, Entailed, IsCall, added}
 use Rattle.session.specs.Queries.{NamesFound, names_in}
 use Rattle.session.specs.Sessions.{IsSession, Opened}
 use Rattle.session.specs.TextAnswers.{IsSpelledAnswer, query_lines}
+use Rattle.session.specs.declared.entails_fault.EntailsFault.{EntailsFault}
+use Rattle.session.specs.declared.entails_fault.EntailsFault.TheVariants as entailing
 use Rattle.session.specs.declared.fault.AskFault.{AskFault}
 use Rattle.session.specs.declared.fault.AskFault.TheVariants as asking
 use Rattle.session.specs.declared.querying.Answers.{Answers}
@@ -76,6 +80,18 @@ IsQueryTold limits (querying.Expression fault) t = IsFaultTold limits (faults.Ex
 IsQueryTold limits querying.Limit t = IsFaultTold limits faults.Limit t
 IsQueryTold limits querying.Memory t = t ≡ out_of_memory
 
+-- that the session lacks the name
+abbrev pub unknown_told : List ℕ → Told
+unknown_told name = told statuses.Usage (codes "unknown name <" ++ (name ++ codes ">\n"))
+
+abbrev pub IsEntailsTold : Limits → EntailsFault → Told → Type 0
+IsEntailsTold limits entailing.Unfinished t = t ≡ unfinished
+IsEntailsTold limits (entailing.Statements fault) t = IsFaultTold limits (faults.Expression fault) t
+IsEntailsTold limits (entailing.UnknownName name) t = t ≡ unknown_told (string_bytes name)
+IsEntailsTold limits entailing.TooManyNames t = IsFaultTold limits (faults.Expression reading.TooManyNames) t
+IsEntailsTold limits entailing.Limit t = IsFaultTold limits faults.Limit t
+IsEntailsTold limits entailing.Memory t = t ≡ out_of_memory
+
 -- what is told of the answer to a question, with names that are spelled so, or where there is none
 abbrev pub IsAnsweredTold : Limits → Opened → Question → Spelling → Result Answer AskFault → Told → Type 0
 IsAnsweredTold limits s question spelling (Ok answer) t = IsSpelledAnswer s.prefixes spelling s.ontology question answer t.text × (t.status ≡ statuses.Done)
@@ -85,6 +101,15 @@ IsAnsweredTold limits s question spelling (Err fault) t = IsAskTold limits fault
 abbrev pub IsFoundTold : Limits → Result NamesFound QueryFault → Told → Type 0
 IsFoundTold limits (Ok found) t = t ≡ done (query_lines found)
 IsFoundTold limits (Err fault) t = IsQueryTold limits fault t
+
+-- whether axioms follow, as a word
+abbrev pub entailment : Bool → List ℕ
+entailment true = codes "yes\n"
+entailment false = codes "no\n"
+
+abbrev pub IsEntailedTold : Limits → Result Bool EntailsFault → Told → Type 0
+IsEntailedTold limits (Ok entailed) t = t ≡ done (entailment entailed)
+IsEntailedTold limits (Err fault) t = IsEntailsTold limits fault t
 
 -- the names that a query gives
 abbrev pub found : Result Answers QueryFault → Result NamesFound QueryFault
@@ -142,11 +167,12 @@ IsRunTold limits end s (Ok _) t = IsEndTold s t
 IsRunTold limits end s (Err stops.Limit) t = IsStopTold limits end s t
 IsRunTold limits end s (Err stops.Memory) t = t ≡ out_of_memory
 
--- what is told of an addition, and of the names of a class expression
+-- what is told of an addition, of the names of a class expression, and of axioms that may follow
 abbrev pub IsAnswerTold : Limits → Reply → Told → Type 0
 IsAnswerTold limits (Added (Ok _)) t = t ≡ done []
 IsAnswerTold limits (Added (Err fault)) t = IsFaultTold limits (faults.Expression fault) t
 IsAnswerTold limits (Found answer) t = IsFoundTold limits answer t
+IsAnswerTold limits (Entailed answer) t = IsEntailedTold limits answer t
 IsAnswerTold limits reply t = ⊥
 
 -- ---- what is done
@@ -190,6 +216,7 @@ IsStep limits old asked.Run payload t new = IsRunTo limits limits.max_facts old 
 IsStep limits old (asked.RunSome more) payload t new = IsRunTo limits (run_end limits old more) old t new
 IsStep limits old (asked.Ask question spelling) payload t new = IsAsked limits question spelling old t new
 IsStep limits old (asked.Query size) payload t new = IsTextCalled limits (λ text. Query text limits.max_facts) payload old t new
+IsStep limits old (asked.Entails size) payload t new = IsTextCalled limits (λ text. Entail text limits.max_facts) payload old t new
 IsStep limits old (asked.Write paths) payload t new = IsSaid (λ t. t ≡ unfiled) old t new
 IsStep limits old (asked.Infer path) payload t new = IsSaid (λ t. t ≡ unfiled) old t new
 IsStep limits old (asked.Axiom number spelling) payload t new = IsSaid (IsAxiomTold old number spelling) old t new

@@ -13,7 +13,7 @@ use Rattle.program.specs.declared.question.Spelling.TheVariants.{Full, Short}
 use Rattle.speech.specs.declared.command.Command.{Command}
 use Rattle.speech.specs.declared.command.Writing.{Writing}
 use Rattle.speech.specs.declared.command.Writing.TheVariants.{Texts, Inferred}
-use Rattle.speech.specs.declared.command.Command.TheVariants.{Add, Run, RunSome, Ask, Query, Write, Infer, Axiom, Status, Version}
+use Rattle.speech.specs.declared.command.Command.TheVariants.{Add, Run, RunSome, Ask, Query, Entails, Write, Infer, Axiom, Status, Version}
 use Rattle.speech.specs.declared.line.CommandFault.{CommandFault}
 use Rattle.speech.specs.declared.line.CommandFault.TheVariants as faults
 use Rattle.speech.specs.declared.options.Options.{Options}
@@ -72,6 +72,7 @@ words_of Run = codes "run" ∷ []
 words_of (RunSome more) = codes "run" ∷ decimal more ∷ []
 words_of (Ask question spelling) = question_words question ++ spelling_words spelling
 words_of (Query size) = codes "query" ∷ decimal size ∷ []
+words_of (Entails size) = codes "entails" ∷ decimal size ∷ []
 words_of (Write paths) = codes "write" ∷ paths.taxonomy.now ∷ paths.instances.now ∷ paths.certificate.now ∷ []
 words_of (Infer path) = codes "infer" ∷ path.now ∷ []
 words_of (Axiom number spelling) = codes "axiom" ∷ decimal number ∷ spelling_words spelling
@@ -82,6 +83,7 @@ words_of Version = codes "version" ∷ []
 abbrev pub payload_size : Command → Option ℕ
 payload_size (Add size) = Some size
 payload_size (Query size) = Some size
+payload_size (Entails size) = Some size
 payload_size command = None
 
 -- what a command asks to write into files
@@ -95,6 +97,7 @@ abbrev pub IsCounted : Command → Type 0
 IsCounted (Add size) = size < 2 ^ 64
 IsCounted (RunSome more) = (0 < more) × (more < 2 ^ 32)
 IsCounted (Query size) = size < 2 ^ 64
+IsCounted (Entails size) = size < 2 ^ 64
 IsCounted (Axiom number spelling) = number < 2 ^ 64
 IsCounted command = Unit {0}
 
@@ -119,7 +122,7 @@ BeginsWith word line = (line ≡ word) ⊎ ((rest : List ℕ) × (line ≡ word 
 
 -- the line begins as that of a command that bytes follow
 abbrev pub AnnouncesBytes : List ℕ → Type 0
-AnnouncesBytes line = BeginsWith (codes "add") line ⊎ BeginsWith (codes "query") line
+AnnouncesBytes line = BeginsWith (codes "add") line ⊎ (BeginsWith (codes "query") line ⊎ BeginsWith (codes "entails") line)
 
 -- why a line is no command: it does not tell how many bytes follow it, or none follow it
 abbrev pub IsNoCommand : List ℕ → CommandFault → Type 0

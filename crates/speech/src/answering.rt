@@ -1,13 +1,13 @@
 //! What a session answers, as replies.
-ghost use Rattle.speech.specs.Answers.{IsAskTold, IsDoneWith, IsFaultTold, IsFoundTold, IsQueryTold, Tells, consistency as word_of, found, unfiled, unfinished};
-ghost use Rattle.std.specs.Prelude.{◌≡◌};
+ghost use Rattle.speech.specs.Answers.{IsAskTold, IsDoneWith, IsEntailedTold, IsEntailsTold, IsFaultTold, IsFoundTold, IsQueryTold, Tells, consistency as word_of, entailment, found, unfiled, unfinished, unknown_told};
+ghost use Rattle.std.specs.Prelude.{◌≡◌, string_bytes};
 
 use crate::messages::question_message;
 use crate::reply::Reply;
 use device::Memory;
-use profile::Limits;
+use profile::{DocumentFault, Limits};
 use program::Status;
-use session::{Answers, AskFault, QueryFault, QuestionFault, lines_of_answers};
+use session::{Answers, AskFault, EntailsFault, QueryFault, QuestionFault, lines_of_answers};
 use std::alloc::Global;
 
 /// The reply that a command is done, with its answer.
@@ -127,5 +127,61 @@ pub(crate) fn found_reply(
     match answers {
         Ok(answers) => done_with(lines_of_answers(alloc, &answers)),
         Err(fault) => query_reply(alloc, limits, fault),
+    }
+}
+
+/// The reply that the session lacks the name.
+fn unknown_reply(alloc: Global, name: &str) -> Result<Reply, Memory>
+    ensures { Tells (λ t. t ≡ unknown_told name.now) result }
+{
+    match format!(in alloc; "unknown name <{name}>\n") {
+        Ok(text) => Ok(Reply {
+            status: Status::Usage,
+            text: text.into_bytes(),
+        }),
+        Err(_) => Err(Memory),
+    }
+}
+
+/// The reply where it is not told whether axioms follow.
+fn entails_reply(alloc: Global, limits: &Limits, fault: EntailsFault) -> Result<Reply, Memory>
+    ensures { Tells (IsEntailsTold limits.now fault) result }
+{
+    match fault {
+        EntailsFault::Unfinished => unfinished_reply(alloc),
+        EntailsFault::Statements(fault) => {
+            fault_reply(alloc, limits, &QuestionFault::Expression(fault))
+        }
+        EntailsFault::UnknownName(name) => unknown_reply(alloc, name.as_str()),
+        EntailsFault::TooManyNames => {
+            let fault = QuestionFault::Expression(DocumentFault::TooManyNames);
+            fault_reply(alloc, limits, &fault)
+        }
+        EntailsFault::Limit => fault_reply(alloc, limits, &QuestionFault::Limit),
+        EntailsFault::Memory => Err(Memory),
+    }
+}
+
+/// Whether axioms follow, as a line.
+fn entailment_line(entailed: bool) -> &'static [u8]
+    ensures { result.now ≡ entailment entailed }
+{
+    if entailed { b"yes\n" } else { b"no\n" }
+}
+
+/// The reply whether axioms follow.
+pub(crate) fn entailed_reply(
+    alloc: Global,
+    limits: &Limits,
+    entailed: Result<bool, EntailsFault>,
+) -> Result<Reply, Memory>
+    ensures { Tells (IsEntailedTold limits.now entailed) result }
+{
+    match entailed {
+        Ok(entailed) => match entailment_line(entailed).to_vec(alloc) {
+            Ok(text) => Ok(done_reply(text)),
+            Err(_) => Err(Memory),
+        },
+        Err(fault) => entails_reply(alloc, limits, fault),
     }
 }

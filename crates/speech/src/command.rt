@@ -34,6 +34,8 @@ pub enum Command<'l> {
     Ask(Question<'l>, Spelling),
     /// The names of the class expression of a text of so many bytes.
     Query(u64),
+    /// Whether the axioms of a text of so many bytes follow.
+    Entails(u64),
     /// To write the texts of the classification into files.
     Write(TextPaths<'l>),
     /// To write what follows from the axioms into the file at the path, as a document.
@@ -54,6 +56,7 @@ impl<'l> Command<'l> {
         match self {
             Command::Add(size) => Some(*size),
             Command::Query(size) => Some(*size),
+            Command::Entails(size) => Some(*size),
             _ => None,
         }
     }

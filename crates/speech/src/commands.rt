@@ -48,6 +48,7 @@ fn command_with_word<'l>(verb: &str, word: &'l str) -> Option<Command<'l>>
     match verb {
         "add" => Some(Command::Add(size_of_word(word)?)),
         "query" => Some(Command::Query(size_of_word(word)?)),
+        "entails" => Some(Command::Entails(size_of_word(word)?)),
         "run" => Some(Command::RunSome(count_of_word(word)?)),
         "axiom" => Some(Command::Axiom(size_of_word(word)?, Spelling::Full)),
         "infer" => Some(Command::Infer(word)),

@@ -35,7 +35,7 @@ fn begins_with(word: &[u8], line: &[u8]) -> bool
 fn announces_bytes(line: &[u8]) -> bool
     ensures { IsTrue result ↔ AnnouncesBytes line.now }
 {
-    begins_with(b"add", line) || begins_with(b"query", line)
+    begins_with(b"add", line) || begins_with(b"query", line) || begins_with(b"entails", line)
 }
 
 /// The command that the line is, without its line feed.

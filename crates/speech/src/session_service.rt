@@ -1,7 +1,7 @@
 //! A session that answers commands.
 ghost use Rattle.answers.specs.Questions.{IsAnswerTo};
 ghost use Rattle.engine.specs.Saturations.{IsFinished};
-ghost use Rattle.session.specs.Edits.{Add, Query};
+ghost use Rattle.session.specs.Edits.{Add, Entail, Query};
 ghost use Rattle.profile.specs.declared.fault.DocumentFault.TheVariants.{NotUtf8};
 ghost use Rattle.session.specs.declared.question_fault.QuestionFault.TheVariants as faults;
 ghost use Rattle.speech.specs.Answers.{IsAnsweredTold, IsAsked, IsAxiomTold, IsEndTold, IsFaultTold, IsRunTo, IsStep, IsStopTold, IsTextCalled, Tells, done, no_axiom_told, run_end, status_text};
@@ -9,7 +9,8 @@ ghost use Rattle.speech.specs.Replies.{told_by};
 ghost use Rattle.std.specs.Prelude.{◌≡◌, ◌≤◌, Ok};
 
 use crate::answering::{
-    ask_reply, consistency, done_reply, done_with, fault_reply, found_reply, unfiled_reply,
+    ask_reply, consistency, done_reply, done_with, entailed_reply, fault_reply, found_reply,
+    unfiled_reply,
 };
 use crate::command::Command;
 use crate::reply::Reply;
@@ -194,6 +195,21 @@ impl SessionService {
         )
     }
 
+    /// Whether the axioms that the bytes state follow.
+    fn entails(&self, payload: &[u8]) -> Result<Reply, Memory>
+        ensures { IsTextCalled self.now.limits (λ text. Entail text self.now.limits.max_facts) payload.now self.now.session (told_by result) self.now.session }
+    {
+        let text = match from_utf8(payload) {
+            Ok(text) => text,
+            Err(error) => return self.no_text(error.valid_up_to()),
+        };
+        entailed_reply(
+            self.alloc,
+            &self.limits,
+            self.session.entails(text, self.limits.max_facts),
+        )
+    }
+
     /// Does what the command asks for, by one call of the session.
     fn reply(&mut self, command: Command<'_>, payload: &[u8]) -> Result<Reply, Memory>
         ensures step { IsStep self.old.limits self.old.session command.entry payload.now (told_by result) self.new.session }
@@ -205,6 +221,7 @@ impl SessionService {
             Command::RunSome(more) => self.run_some(more),
             Command::Ask(question, spelling) => self.ask(question, spelling),
             Command::Query(_) => self.query(payload),
+            Command::Entails(_) => self.entails(payload),
             Command::Write(_) | Command::Infer(_) => unfiled_reply(self.alloc),
             Command::Axiom(number, spelling) => self.axiom(number, spelling),
             Command::Status => self.status(),

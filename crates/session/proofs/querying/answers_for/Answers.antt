@@ -1,4 +1,4 @@
-use Rattle.session.proofs.Expressions.{is_root}
+use Rattle.entailment.proofs.Asking.{is_root}
 use Rattle.session.proofs.querying.answers_for.Goals as goal
 
 pub selected-requires-clause-root : goal.selected-requires-clause-root

@@ -1,9 +1,9 @@
-use Rattle.std.proofs.Common.{◌≡◌, ◌∙◌, ap, subst, ℕ, List, [], ◌∷◌, Err}
+use Rattle.std.proofs.Common.{◌≡◌, ◌∙◌, ap, subst, ℕ, List, Err}
 use Rattle.engine.specs.Saturations.{HasMoreFactsThan}
 use Rattle.inference.specs.declared.known_facts.Stop.TheVariants as stops
 use Rattle.normalise.specs.Listing.{Listing}
-use Rattle.session.proofs.Expressions.{asked_alone}
-use Rattle.session.proofs.querying.saturated_with.Goals as goal
+use Rattle.entailment.proofs.Asking.{asked_alone}
+use Rattle.entailment.proofs.tester.saturated_with.Goals as goal
 
 pub returns-in-Ok-clause-sound : goal.returns-in-Ok-clause-sound
 returns-in-Ok-clause-sound c = (c.in-Ok.ensures.saturates c.args.new.now c.in_ok-asked.ensures.sound).sound

@@ -1,0 +1,9 @@
+pub mod Moving
+pub mod Paths
+pub mod Deciding
+pub mod Names
+pub mod Asking
+pub mod Building
+pub mod Members
+pub mod Listing
+pub mod Stated
