@@ -4,7 +4,7 @@
 usage: tools/elc_session.py ELC DOC [OPTION ..]
 
 ELC is a binary of elc, as crates/elc/out/elc. As a program this reads commands from standard input, a line each, as docs/SESSION.md has
-them, but for sizes: `add` and `query` have their text on the same line, as `add SubClassOf(:Margherita :Pizza)`. It prints what each is
+them, but for sizes: `add`, `query` and `entails` have their text on the same line, as `add SubClassOf(:Margherita :Pizza)`. It prints what each is
 answered with, and of one that is not done a line `no STATUS: TEXT`. An editor imports it:
 
     from elc_session import Refused, Session
@@ -175,6 +175,10 @@ class Session(contextlib.AbstractContextManager):
         """The classes above and below a class expression and its individuals, as lines of `elc query`."""
         return self.command("query", expression)
 
+    def entails(self, axioms):
+        """Whether each of the axioms of the text holds in every finite interpretation in which those of the session hold."""
+        return self.command("entails", axioms) == "yes\n"
+
     def axiom(self, number, short=False):
         """The axiom of that number, as explanations cite it."""
         return self.command(f"axiom {number}" + " short" * short)
@@ -191,7 +195,7 @@ class Session(contextlib.AbstractContextManager):
 def answer(session, line):
     """The reply to a typed line, which is sent as it is, but that the size of a text stands in front of it."""
     word, _, text = line.partition(" ")
-    return session.command(word, text) if word in ("add", "query") else session.command(line)
+    return session.command(word, text) if word in ("add", "query", "entails") else session.command(line)
 
 
 def typed():

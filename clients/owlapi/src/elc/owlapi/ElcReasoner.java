@@ -45,7 +45,6 @@ public class ElcReasoner extends PropertiesAsTold {
     private final Set<OWLAxiom> unsaid = new LinkedHashSet<>();
     private ElcSession session;
     private ElcSession second;
-    private Entailments entailments;
     private ToldOntology told;
     private boolean isDisposed;
 
@@ -229,7 +228,6 @@ public class ElcReasoner extends PropertiesAsTold {
     }
 
     private void closeSecond() {
-        entailments = null;
         if (second != null) {
             second.close();
             second = null;
@@ -568,17 +566,8 @@ public class ElcReasoner extends PropertiesAsTold {
             ElcSession it = consistent();
             Entailments.demandOfProfile(axiom);
             demandKnown(it, axiom);
-            if (entailments == null) {
-                entailments = new Entailments(factory, it, this::second, this::openedWith, told());
-            }
-            return entailments.holds(axiom);
+            return new Entailments(factory, it, this::second, this::told).holds(axiom);
         });
-    }
-
-    private ElcSession openedWith(OWLAxiom axiom) {
-        List<OWLAxiom> all = changes.axioms();
-        all.add(axiom);
-        return opened(all);
     }
 
     @Override

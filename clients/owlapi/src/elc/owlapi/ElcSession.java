@@ -13,8 +13,8 @@ import org.semanticweb.owlapi.reasoner.Node;
 import org.semanticweb.owlapi.reasoner.impl.OWLClassNode;
 
 /**
- * A process <code>elc session</code> over axioms, run to its end: what it answers about names that it has and about expressions over
- * these. What is not of the profile is left out. What was answered is kept until axioms are added. The exceptions are those of
+ * A process <code>elc session</code> over axioms, run to its end: what it answers about names that it has, and about expressions and
+ * axioms over these. What is not of the profile is left out. What was answered is kept until axioms are added. The exceptions are those of
  * {@link ElcProcess}, and {@link java.io.UncheckedIOException}s where a file or the program fails.
  */
 final class ElcSession implements AutoCloseable {
@@ -236,6 +236,11 @@ final class ElcSession implements AutoCloseable {
         return replies.asked(process.ask("query", said.text));
     }
 
+    /** Whether the axiom of this text follows. Its names are those of the session. */
+    boolean entails(String axiom) {
+        return process.ask("entails", axiom).equals("yes\n");
+    }
+
     /** The named classes that are the same as an expression. */
     static Set<OWLClass> same(ElcReplies.Asked asked) {
         Set<OWLClass> same = new LinkedHashSet<>(asked.supers);
@@ -316,11 +321,6 @@ final class ElcSession implements AutoCloseable {
         fetchInstances(classes);
         classes.forEach(it -> left.removeAll(instances.get(it)));
         return left;
-    }
-
-    /** Whether there may be expressions without elements, where the axioms do not contradict one another. */
-    boolean mayHaveEmpty() {
-        return hasDisjointness;
     }
 
     /**

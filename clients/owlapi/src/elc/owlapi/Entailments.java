@@ -1,9 +1,11 @@
 package elc.owlapi;
 
 import java.util.*;
-import java.util.function.Function;
+import java.util.function.BiFunction;
 import java.util.function.Supplier;
 import java.util.stream.Collectors;
+import java.util.stream.IntStream;
+import java.util.stream.Stream;
 import org.semanticweb.owlapi.model.*;
 import org.semanticweb.owlapi.reasoner.AxiomNotInProfileException;
 import org.semanticweb.owlapi.reasoner.ClassExpressionNotInProfileException;
@@ -12,11 +14,8 @@ import org.semanticweb.owlapi.reasoner.UnsupportedEntailmentTypeException;
 /**
  * Whether an axiom of the profile follows from axioms that do not contradict one another.
  *
- * <p>Where names say the question, the session of the reasoner is asked. Else it is asked with names that are fresh, in a second session
- * over the same axioms, to which something is added about fresh names, so that what follows about all others stays as it was: C is below
- * D where a fresh class that is told to be below C is below a fresh one that is told to be above D; r leads from a to b where a is in a
- * fresh class that is told to be above what has an r into a fresh class of b; and r is below s where s leads from a to b for fresh a and b
- * that r is told to lead from and to, which is done only where some such pair there may be. That something does not hold, or that two differ, follows where its opposite contradicts, in a session of its own.
+ * <p>The session of the reasoner is asked, where it has all names of the axiom. A name that it lacks may mean anything, so a second
+ * session over the same axioms is asked, to which such names are declared: that says nothing about others.
  */
 final class Entailments {
     static final IRI PROFILE = IRI.create("http://www.w3.org/ns/owl-profile/EL");
@@ -31,20 +30,16 @@ final class Entailments {
     private final OWLDataFactory factory;
     private final ElcSession session;
     private final Supplier<ElcSession> second;
-    private final Function<OWLAxiom, ElcSession> opened;
-    private final ToldOntology told;
-    private int fresh;
+    private final Supplier<ToldOntology> told;
 
     /**
      * @param session has the axioms
-     * @param second gives a session with these, and with what was added for other questions
-     * @param opened gives a new session with these and one more
+     * @param second gives a session with these, and with names that were declared for other questions
      */
-    Entailments(OWLDataFactory factory, ElcSession session, Supplier<ElcSession> second, Function<OWLAxiom, ElcSession> opened, ToldOntology told) {
+    Entailments(OWLDataFactory factory, ElcSession session, Supplier<ElcSession> second, Supplier<ToldOntology> told) {
         this.factory = factory;
         this.session = session;
         this.second = second;
-        this.opened = opened;
         this.told = told;
     }
 
@@ -81,175 +76,54 @@ final class Entailments {
         if (isTrivial(axiom)) {
             return true;
         }
-        if (axiom instanceof OWLSubClassOfAxiom) {
-            return isBelow(((OWLSubClassOfAxiom) axiom).getSubClass(), ((OWLSubClassOfAxiom) axiom).getSuperClass());
-        }
-        if (axiom instanceof OWLEquivalentClassesAxiom) {
-            return inTurn(((OWLEquivalentClassesAxiom) axiom).classExpressions().collect(Collectors.toList()), this::isBelow);
-        }
-        if (axiom instanceof OWLDisjointClassesAxiom) {
-            return eachTwo(((OWLDisjointClassesAxiom) axiom).classExpressions().collect(Collectors.toList()), this::isApart);
-        }
-        if (axiom instanceof OWLClassAssertionAxiom) {
-            OWLClassAssertionAxiom it = (OWLClassAssertionAxiom) axiom;
-            return over(axiom).query(it.getClassExpression()).instances.contains(it.getIndividual().asOWLNamedIndividual());
-        }
-        if (axiom instanceof OWLObjectPropertyAssertionAxiom) {
-            OWLObjectPropertyAssertionAxiom it = (OWLObjectPropertyAssertionAxiom) axiom;
-            OWLClass mark = freshClass();
-            OWLClass found = freshClass();
-            ElcSession asked = with(axiom, factory.getOWLClassAssertionAxiom(mark, it.getObject()), into(it.getProperty(), mark, found));
-            return asked.instances(found).contains(it.getSubject().asOWLNamedIndividual());
-        }
-        if (axiom instanceof OWLNegativeObjectPropertyAssertionAxiom) {
-            OWLNegativeObjectPropertyAssertionAxiom it = (OWLNegativeObjectPropertyAssertionAxiom) axiom;
-            return contradicts(factory.getOWLObjectPropertyAssertionAxiom(it.getProperty(), it.getSubject(), it.getObject()));
-        }
         if (axiom instanceof OWLSameIndividualAxiom) {
             // in the profile two individuals are one only where that is told
             List<OWLIndividual> listed = ((OWLSameIndividualAxiom) axiom).individuals().collect(Collectors.toList());
-            return told.same(listed.get(0).asOWLNamedIndividual()).containsAll(listed);
+            return told.get().same(listed.get(0).asOWLNamedIndividual()).containsAll(listed);
         }
-        if (axiom instanceof OWLDifferentIndividualsAxiom) {
-            List<OWLIndividual> listed = ((OWLDifferentIndividualsAxiom) axiom).individuals().collect(Collectors.toList());
-            return eachTwo(listed, (one, other) -> contradicts(factory.getOWLSameIndividualAxiom(one, other)));
-        }
-        return holdsOfProperties(axiom);
+        return parts(axiom).allMatch(this::follows);
     }
 
-    private boolean holdsOfProperties(OWLAxiom axiom) {
-        if (axiom instanceof OWLObjectPropertyDomainAxiom) {
-            return holds(((OWLObjectPropertyDomainAxiom) axiom).asOWLSubClassOfAxiom());
-        }
-        if (axiom instanceof OWLSubObjectPropertyOfAxiom) {
-            return leads(List.of(((OWLSubObjectPropertyOfAxiom) axiom).getSubProperty()), ((OWLSubObjectPropertyOfAxiom) axiom).getSuperProperty());
-        }
-        if (axiom instanceof OWLSubPropertyChainOfAxiom) {
-            return leads(((OWLSubPropertyChainOfAxiom) axiom).getPropertyChain(), ((OWLSubPropertyChainOfAxiom) axiom).getSuperProperty());
-        }
-        if (axiom instanceof OWLTransitiveObjectPropertyAxiom) {
-            OWLObjectPropertyExpression property = ((OWLTransitiveObjectPropertyAxiom) axiom).getProperty();
-            return leads(List.of(property, property), property);
-        }
-        if (axiom instanceof OWLReflexiveObjectPropertyAxiom) {
-            return leads(List.of(), ((OWLReflexiveObjectPropertyAxiom) axiom).getProperty());
+    /** What the axiom says: of things that are the same, that each lies below the next one, and the last below the first. */
+    private Stream<OWLAxiom> parts(OWLAxiom axiom) {
+        if (axiom instanceof OWLEquivalentClassesAxiom) {
+            return inTurn(((OWLEquivalentClassesAxiom) axiom).classExpressions(), factory::getOWLSubClassOfAxiom);
         }
         if (axiom instanceof OWLEquivalentObjectPropertiesAxiom) {
-            return inTurn(((OWLEquivalentObjectPropertiesAxiom) axiom).properties().collect(Collectors.toList()), (one, other) -> leads(List.of(one), other));
+            return inTurn(((OWLEquivalentObjectPropertiesAxiom) axiom).properties(), factory::getOWLSubObjectPropertyOfAxiom);
         }
-        throw new UnsupportedEntailmentTypeException(axiom);
+        return Stream.of(axiom);
     }
 
-    private interface Relation<T> {
-        boolean holds(T one, T other);
+    private static <T> Stream<OWLAxiom> inTurn(Stream<T> operands, BiFunction<T, T, OWLAxiom> below) {
+        List<T> listed = operands.collect(Collectors.toList());
+        return IntStream.range(0, listed.size()).mapToObj(i -> below.apply(listed.get(i), listed.get((i + 1) % listed.size())));
     }
 
-    private static <T> boolean inTurn(List<T> listed, Relation<T> relation) {
-        for (int i = 0; i < listed.size(); i++) {
-            if (!relation.holds(listed.get(i), listed.get((i + 1) % listed.size()))) {
-                return false;
+    private boolean follows(OWLAxiom axiom) {
+        ElcText.Said said = ElcText.axiom(axiom).orElseThrow(() -> new AxiomNotInProfileException(axiom, PROFILE));
+        ElcSession asked = over(said.names);
+        if (axiom instanceof OWLSubClassOfAxiom) {
+            OWLSubClassOfAxiom it = (OWLSubClassOfAxiom) axiom;
+            if (it.getSubClass().isOWLClass() && it.getSuperClass().isOWLClass()) {
+                return asked.supers(it.getSubClass().asOWLClass()).contains(it.getSuperClass().asOWLClass());
+            }
+        } else if (axiom instanceof OWLClassAssertionAxiom) {
+            OWLClassAssertionAxiom it = (OWLClassAssertionAxiom) axiom;
+            if (it.getClassExpression().isOWLClass()) {
+                return asked.instances(it.getClassExpression().asOWLClass()).contains(it.getIndividual().asOWLNamedIndividual());
             }
         }
-        return true;
+        return asked.entails(said.text);
     }
 
-    private static <T> boolean eachTwo(List<T> listed, Relation<T> relation) {
-        for (int i = 0; i < listed.size(); i++) {
-            for (int k = i + 1; k < listed.size(); k++) {
-                if (!relation.holds(listed.get(i), listed.get(k))) {
-                    return false;
-                }
-            }
+    /** The session of the reasoner where it has the names, or else the second one, to which they are declared. */
+    private ElcSession over(List<OWLEntity> names) {
+        if (names.stream().allMatch(session::knows)) {
+            return session;
         }
-        return true;
-    }
-
-    private boolean isBelow(OWLClassExpression one, OWLClassExpression other) {
-        OWLAxiom asked = factory.getOWLSubClassOfAxiom(one, other);
-        if (!other.isAnonymous() && !one.isAnonymous()) {
-            return over(asked).supers(one.asOWLClass()).contains(other.asOWLClass());
-        }
-        if (!other.isAnonymous()) {
-            return over(asked).query(one).supers.contains(other.asOWLClass());
-        }
-        if (!one.isAnonymous()) {
-            return over(asked).query(other).subs.contains(one.asOWLClass());
-        }
-        OWLClass mark = freshClass();
-        OWLClass found = freshClass();
-        return with(asked, factory.getOWLSubClassOfAxiom(mark, one), factory.getOWLSubClassOfAxiom(other, found)).supers(mark).contains(found);
-    }
-
-    /** What the property leads from into the class is found. */
-    private OWLAxiom into(OWLObjectPropertyExpression property, OWLClass mark, OWLClass found) {
-        return factory.getOWLSubClassOfAxiom(factory.getOWLObjectSomeValuesFrom(property, mark), found);
-    }
-
-    private boolean isApart(OWLClassExpression one, OWLClassExpression other) {
-        return isBelow(factory.getOWLObjectIntersectionOf(one, other), factory.getOWLNothing());
-    }
-
-    /** Whether the property leads wherever the chain does: from everything to itself, where that is empty. */
-    private boolean leads(List<OWLObjectPropertyExpression> chain, OWLObjectPropertyExpression property) {
-        OWLClassExpression way = factory.getOWLThing();
-        for (int i = chain.size(); i-- > 0; ) {
-            way = factory.getOWLObjectSomeValuesFrom(chain.get(i), way);
-        }
-        demandOfProfile(way);
-        if (session.mayHaveEmpty() && isBelow(way, factory.getOWLNothing())) {
-            return true;
-        }
-        List<OWLAxiom> added = new ArrayList<>();
-        OWLNamedIndividual first = freshIndividual();
-        OWLNamedIndividual last = first;
-        for (OWLObjectPropertyExpression step : chain) {
-            OWLNamedIndividual next = freshIndividual();
-            added.add(factory.getOWLObjectPropertyAssertionAxiom(step, last, next));
-            last = next;
-        }
-        OWLClass mark = freshClass();
-        OWLClass found = freshClass();
-        added.add(factory.getOWLClassAssertionAxiom(mark, last));
-        added.add(into(property, mark, found));
         ElcSession asked = second.get();
-        asked.add(added);
-        return asked.instances(found).contains(first);
-    }
-
-    private boolean contradicts(OWLAxiom axiom) {
-        try (ElcSession asked = opened.apply(axiom)) {
-            return !asked.isConsistent();
-        }
-    }
-
-    /** The session of the reasoner where it has the names in the axiom, or else the second one, to which they are declared. */
-    private ElcSession over(OWLAxiom axiom) {
-        return axiom.signature().allMatch(session::knows) ? session : with(axiom);
-    }
-
-    /** The second session, to which the names in the axiom are declared, and the others are added. */
-    private ElcSession with(OWLAxiom axiom, OWLAxiom... added) {
-        ElcSession asked = second.get();
-        List<OWLAxiom> more = axiom.signature().filter(it -> !asked.knows(it)).map(factory::getOWLDeclarationAxiom).collect(Collectors.toList());
-        more.addAll(List.of(added));
-        asked.add(more);
+        asked.add(names.stream().filter(it -> !asked.knows(it)).map(factory::getOWLDeclarationAxiom).collect(Collectors.toList()));
         return asked;
-    }
-
-    private OWLClass freshClass() {
-        return fresh(factory::getOWLClass);
-    }
-
-    private OWLNamedIndividual freshIndividual() {
-        return fresh(factory::getOWLNamedIndividual);
-    }
-
-    private <E extends OWLEntity> E fresh(Function<IRI, E> made) {
-        for (; ; ) {
-            E entity = made.apply(IRI.create("urn:elc:asked#" + fresh++));
-            if (!second.get().knows(entity)) {
-                return entity;
-            }
-        }
     }
 }

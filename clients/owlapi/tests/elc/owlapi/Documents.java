@@ -92,8 +92,65 @@ final class Documents {
             }
             asked(name, reasoner);
             query(name, reasoner);
+            entailed(name, reasoner, factory);
         }
         reasoner.dispose();
+    }
+
+    /** What other calls answer or tell, as axioms. */
+    private void entailed(String name, ElcReasoner reasoner, OWLDataFactory factory) {
+        List<OWLNamedIndividual> individuals = reasoner.getRootOntology().individualsInSignature().collect(Collectors.toList());
+        for (OWLClass one : entities(reasoner.getSubClasses(factory.getOWLThing(), false))) {
+            expression(name, reasoner, factory, factory.getOWLObjectIntersectionOf(one, factory.getOWLThing()), individuals);
+        }
+        reasoner.getRootOntology().objectPropertiesInSignature().forEach(one -> {
+            OWLClassExpression all = factory.getOWLObjectSomeValuesFrom(one, factory.getOWLThing());
+            expression(name, reasoner, factory, all, individuals);
+            for (OWLClass above : entities(reasoner.getObjectPropertyDomains(one, false))) {
+                follows(name, reasoner, true, factory.getOWLObjectPropertyDomainAxiom(one, above));
+            }
+            for (OWLObjectPropertyExpression above : entities(reasoner.getSuperObjectProperties(one, false))) {
+                if (!above.isOWLTopObjectProperty()) {
+                    follows(name, reasoner, true, factory.getOWLSubObjectPropertyOfAxiom(one, above));
+                }
+            }
+            for (OWLNamedIndividual from : individuals) {
+                for (OWLNamedIndividual to : entities(reasoner.getObjectPropertyValues(from, one))) {
+                    follows(name, reasoner, true, factory.getOWLObjectPropertyAssertionAxiom(one, from, to));
+                }
+            }
+        });
+        for (OWLNamedIndividual one : individuals) {
+            for (OWLNamedIndividual other : entities(reasoner.getDifferentIndividuals(one))) {
+                follows(name, reasoner, true, factory.getOWLDifferentIndividualsAxiom(one, other));
+            }
+        }
+    }
+
+    private void expression(String name, ElcReasoner reasoner, OWLDataFactory factory, OWLClassExpression one, List<OWLNamedIndividual> individuals) {
+        Set<OWLClass> same = reasoner.getEquivalentClasses(one).entities().collect(Collectors.toSet());
+        Set<OWLClass> above = entities(reasoner.getSuperClasses(one, false));
+        Set<OWLClass> below = entities(reasoner.getSubClasses(one, false));
+        Set<OWLClass> apart = entities(reasoner.getDisjointClasses(one));
+        for (OWLClass other : entities(reasoner.getSubClasses(factory.getOWLThing(), false))) {
+            follows(name, reasoner, same.contains(other) || above.contains(other), factory.getOWLSubClassOfAxiom(one, other));
+            follows(name, reasoner, same.contains(other) || below.contains(other), factory.getOWLSubClassOfAxiom(other, one));
+            follows(name, reasoner, same.contains(other), factory.getOWLEquivalentClassesAxiom(one, other));
+            follows(name, reasoner, apart.contains(other), factory.getOWLDisjointClassesAxiom(one, other));
+        }
+        Set<OWLNamedIndividual> found = entities(reasoner.getInstances(one, false));
+        for (OWLNamedIndividual individual : individuals) {
+            follows(name, reasoner, found.contains(individual), factory.getOWLClassAssertionAxiom(one, individual));
+        }
+    }
+
+    private static <E extends OWLObject> Set<E> entities(NodeSet<E> nodes) {
+        return nodes.entities().collect(Collectors.toSet());
+    }
+
+    private void follows(String name, ElcReasoner reasoner, boolean expected, OWLAxiom axiom) {
+        asked++;
+        judge.same(name + " entailed " + axiom, expected, reasoner.isEntailed(axiom));
     }
 
     private void contradiction(String name, ElcReasoner reasoner, OWLClass thing) {
@@ -125,8 +182,7 @@ final class Documents {
             int space = line.indexOf(' ');
             OWLOntology ontology = OWLManager.createOWLOntologyManager().loadOntologyFromOntologyDocument(new StringDocumentSource("Ontology(" + line.substring(space + 1) + ")"));
             for (OWLAxiom axiom : ontology.logicalAxioms().collect(Collectors.toList())) {
-                asked++;
-                judge.same(name + " entailed " + axiom, line.startsWith("yes"), reasoner.isEntailed(axiom));
+                follows(name, reasoner, line.startsWith("yes"), axiom);
             }
         }
     }

@@ -13,7 +13,7 @@ import org.semanticweb.owlapi.util.*;
 
 /**
  * Compares what the API's own generator of inferred axioms gives over documents with the taxonomies that stand beside them, and tells how
- * long it takes to open each, to ask a thousand questions, and to generate.
+ * long it takes to open each, to ask a thousand questions of names and a thousand of axioms, and to generate.
  */
 final class Vocabularies {
     private static final Comparator<String> BY_BYTES = (one, other) -> Arrays.compareUnsigned(one.getBytes(StandardCharsets.UTF_8), other.getBytes(StandardCharsets.UTF_8));
@@ -44,6 +44,7 @@ final class Vocabularies {
         ElcReasoner reasoner = new ElcReasonerFactory(elc).createReasoner(ontology);
         reasoner.isConsistent();
         start = told(name, "opened and run, " + reasoner.leftOut().size() + " left out", start);
+        OWLDataFactory factory = ontology.getOWLOntologyManager().getOWLDataFactory();
         List<OWLClass> classes = ontology.classesInSignature().sorted().collect(Collectors.toList());
         for (int i = 0; i < QUESTIONS; i++) {
             OWLClass one = classes.get(i * 7 % classes.size());
@@ -62,8 +63,12 @@ final class Vocabularies {
             }
         }
         start = told(name, QUESTIONS + " questions", start);
+        List<OWLObjectProperty> properties = ontology.objectPropertiesInSignature().sorted().collect(Collectors.toList());
+        for (int i = 0; i < QUESTIONS && !properties.isEmpty(); i++) {
+            reasoner.isEntailed(axiom(factory, classes, properties, i));
+        }
+        start = told(name, QUESTIONS + " axioms asked", start);
         OWLOntology inferred = OWLManager.createOWLOntologyManager().createOntology();
-        OWLDataFactory factory = ontology.getOWLOntologyManager().getOWLDataFactory();
         new InferredOntologyGenerator(reasoner, List.of(new InferredSubClassAxiomGenerator(), new InferredEquivalentClassAxiomGenerator())).fillOntology(factory, inferred);
         start = told(name, inferred.getAxiomCount() + " inferred axioms of classes", start);
         OWLOntology all = OWLManager.createOWLOntologyManager().createOntology();
@@ -80,6 +85,26 @@ final class Vocabularies {
         told(name, "a removal, and a question", start);
         reasoner.dispose();
         return taxonomy(ontology, inferred);
+    }
+
+    /** An axiom of one of the kinds that names alone do not say. */
+    private static OWLAxiom axiom(OWLDataFactory factory, List<OWLClass> classes, List<OWLObjectProperty> properties, int i) {
+        OWLClass one = classes.get(i * 7 % classes.size());
+        OWLClass other = classes.get(i * 11 % classes.size());
+        OWLObjectProperty property = properties.get(i * 3 % properties.size());
+        OWLObjectProperty above = properties.get(i * 5 % properties.size());
+        switch (i % 5) {
+            case 0:
+                return factory.getOWLSubClassOfAxiom(one, factory.getOWLObjectSomeValuesFrom(property, other));
+            case 1:
+                return factory.getOWLSubClassOfAxiom(factory.getOWLObjectSomeValuesFrom(property, one), factory.getOWLObjectSomeValuesFrom(above, other));
+            case 2:
+                return factory.getOWLDisjointClassesAxiom(one, factory.getOWLObjectSomeValuesFrom(property, other));
+            case 3:
+                return factory.getOWLSubObjectPropertyOfAxiom(property, above);
+            default:
+                return factory.getOWLTransitiveObjectPropertyAxiom(property);
+        }
     }
 
     private static long told(String name, String what, long start) {
