@@ -13,11 +13,12 @@ import org.semanticweb.owlapi.util.*;
 
 /**
  * Compares what the API's own generator of inferred axioms gives over documents with the taxonomies that stand beside them, and tells how
- * long it takes to open each, to ask a thousand questions of names and a thousand of axioms, and to generate.
+ * long it takes to open each, to ask a thousand questions of names and a hundred of axioms, and to generate.
  */
 final class Vocabularies {
     private static final Comparator<String> BY_BYTES = (one, other) -> Arrays.compareUnsigned(one.getBytes(StandardCharsets.UTF_8), other.getBytes(StandardCharsets.UTF_8));
     private static final int QUESTIONS = 1000;
+    private static final int AXIOMS = 100;
 
     private Vocabularies() {}
 
@@ -64,10 +65,10 @@ final class Vocabularies {
         }
         start = told(name, QUESTIONS + " questions", start);
         List<OWLObjectProperty> properties = ontology.objectPropertiesInSignature().sorted().collect(Collectors.toList());
-        for (int i = 0; i < QUESTIONS && !properties.isEmpty(); i++) {
+        for (int i = 0; i < AXIOMS && !properties.isEmpty(); i++) {
             reasoner.isEntailed(axiom(factory, classes, properties, i));
         }
-        start = told(name, QUESTIONS + " axioms asked", start);
+        start = told(name, AXIOMS + " axioms asked", start);
         OWLOntology inferred = OWLManager.createOWLOntologyManager().createOntology();
         new InferredOntologyGenerator(reasoner, List.of(new InferredSubClassAxiomGenerator(), new InferredEquivalentClassAxiomGenerator())).fillOntology(factory, inferred);
         start = told(name, inferred.getAxiomCount() + " inferred axioms of classes", start);
