@@ -2,8 +2,10 @@
 use Rattle.std.proofs.Common.{◌≡◌, ◌↔◌, ◌⊎◌, inl, inr, ℕ, zero, suc, ◌+◌, ◌<◌, ◌≤◌, ◌-◌, List, [], ◌∷◌, ◌++◌, true, length, map, take, get_or, slice_get, Some, All, eqb, refl, sym, ap, ap₂, ◌∙◌, subst, arith, true≢false}
 use Rattle.std.specs.Prelude.{◌||◌}
 use Rattle.std.proofs.lemmas.Bool.{cases_eq, eq-eqb, ne_eqb, or_cases, or_left, or_right, cases_lt}
+use Rattle.std.specs.List.{flat_map, range_with_len}
 use Rattle.std.specs.List.Sorted.{IsNonDecreasing}
-use Rattle.std.proofs.lemmas.List.{get_or-map, length-map, length-append, get_or_append_left, get_or-append_right}
+use Rattle.std.proofs.lemmas.List.{append-nil, get_or-map, length-map, length-append, get_or_append_left, get_or-append_right}
+use Rattle.std.proofs.lemmas.List.Concat.{flat_map-append}
 use Rattle.std.proofs.lemmas.List.Elements.{Contains-get_or}
 use Rattle.std.proofs.lemmas.List.Folds.{list_any-append}
 use Rattle.std.proofs.lemmas.Option.{same_Some, slice_get_within, get_or_from_slice_get}
@@ -12,7 +14,6 @@ use Rattle.certificate.specs.View.{pair_row_of, targets_in}
 use Rattle.certificate.specs.declared.listed.PairRow.{PairRow}
 use Rattle.number_sets.specs.Pieces.{list_at}
 use Rattle.number_sets.specs.Transposition.{copies, holders, holders_below}
-use Rattle.number_sets.proofs.Growing.{holders_more}
 use Rattle.listed_model.specs.Listing.{targets_of}
 use Rattle.listed_model.specs.Members.{holds}
 use Rattle.listed_model.specs.Rows.{ArePairRows, IsHolders, IsSourceAmong}
@@ -21,6 +22,19 @@ use Rattle.listed_model.proofs.Found.{IsStart, IsEnd, targets_found, target_row,
 use Rattle.listed_model.proofs.Walks.{holds_next}
 
 -- ---- lists turned around
+
+range_more : (a n j : ℕ) → a + n ≡ j → range_with_len a (suc n) ≡ range_with_len a n ++ j ∷ []
+range_more a zero j e = ap (λ m. m ∷ []) (omega (arith, e))
+range_more a (suc n) j e = ap (λ ms. a ∷ ms) (range_more (a + 1) n j (omega (arith, e)))
+
+pub holders_more : (n : ℕ) (lists : List (List ℕ)) (k : ℕ) → holders_below (n + 1) lists k ≡ holders_below n lists k ++ copies n k (list_at lists n)
+holders_more n lists k =
+    let has_k : ℕ → List ℕ = λ i. copies i k (list_at lists i) in
+    let one_more : n + 1 ≡ suc n = omega arith in
+    let range : range_with_len 0 (n + 1) ≡ range_with_len 0 n ++ n ∷ [] = ap (range_with_len 0) one_more ∙ range_more 0 n n (omega arith) in
+    ap (flat_map has_k) range
+    ∙ flat_map-append has_k (range_with_len 0 n) (n ∷ [])
+    ∙ ap (λ xs. holders_below n lists k ++ xs) (append-nil (has_k n))
 
 copies_mean : (x y : ℕ) (numbers : List ℕ) (k : ℕ) → (holds (copies x y numbers) k ≡ true) ↔ ((x ≡ k) × (holds numbers y ≡ true))
 copies_mean x y [] k = (λ h. absurd (true≢false (sym h)), λ p. absurd (true≢false (sym p.1)))

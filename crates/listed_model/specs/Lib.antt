@@ -6,3 +6,5 @@ pub mod Extensions
 pub mod PropertyTests
 pub mod WideRows
 pub mod Keeping
+pub mod Testers
+pub mod TransitivityTests

@@ -1,20 +1,19 @@
 //! Which elements are of an expression, at a cost that goes by them and by what properties lead to from them.
 ghost use Rattle.certificate.specs.View.{listed_of, pair_row_of};
-ghost use Rattle.certificate.specs.Writability.{IsListedOf};
 ghost use Rattle.listed_model.specs.Extensions.{AreAscending, AreThose};
 ghost use Rattle.listed_model.specs.Interpretations.{class_members};
-ghost use Rattle.listed_model.specs.Keeping.{AreKept};
 ghost use Rattle.listed_model.specs.Listing.{targets_of};
 ghost use Rattle.listed_model.specs.Members.{holds};
 ghost use Rattle.listed_model.specs.Rows.{AreClassRows, ArePairRows, Joined};
+ghost use Rattle.listed_model.specs.Testers.{IsReady};
 ghost use Rattle.std.specs.List.Sorted.{IsStrictlyIncreasing};
 ghost use Rattle.std.specs.Prelude.{◌<◌, ◌≡◌, ◌↔◌, IfOk, length, map, true, ℕ};
 
 use crate::ascending::{common, put_in_order};
-use crate::kept::Kept;
 use crate::meeting::have_common;
 use crate::rows::{elements_at, rows_of, targets_at};
-use axioms::{Expr, ExprId, Memory, Ontology, PropId};
+use crate::tester::Tester;
+use axioms::{Expr, ExprId, Memory, PropId};
 use certificate::{Listed, PairRow};
 use std::alloc::Global;
 
@@ -103,39 +102,39 @@ fn joined_among(
     Ok(joined)
 }
 
-/// Those of the elements that are of the expression, ascending.
-pub(crate) fn those_in(
-    alloc: Global,
-    ontology: &Ontology,
-    listed: &Listed,
-    kept: &Kept,
-    expression: ExprId,
-    elements: &[u32],
-) -> Result<Vec<u32>, Memory>
-    requires listed { IsListedOf ontology.now (listed_of listed.now) }
-    requires kept { AreKept ontology.now listed.now kept.now }
-    requires there { expression.0 < length ontology.now.nodes }
-    requires elements { AreAscending listed.now.domain elements.now }
-    ensures { IfOk result (λ those. AreThose ontology.now (listed_of listed.now) expression.0 elements.now those.items) }
-{
-    if let Some(list) = kept.at(listed, expression) {
-        return common(alloc, elements, list);
-    }
-    match ontology.expr(expression) {
-        Some(Expr::Class(_)) => class_among(alloc, listed, expression, elements),
-        Some(Expr::And(operands)) => {
-            let mut those = Vec::from_slice(alloc, elements)?;
-            for operand in operands {
-                those = those_in(alloc, ontology, listed, kept, *operand, &those)?;
+impl Tester<'_> {
+    /// Those of the elements that are of the expression, ascending.
+    pub(crate) fn those_in(&self, expression: ExprId, elements: &[u32]) -> Result<Vec<u32>, Memory>
+        requires ready { IsReady self.now }
+        requires there { expression.0 < length self.now.ontology.now.nodes }
+        requires elements { AreAscending self.now.listed.now.domain elements.now }
+        ensures { IfOk result (λ those. AreThose self.now.ontology.now (listed_of self.now.listed.now) expression.0 elements.now those.items) }
+    {
+        if let Some(list) = self.kept.at(self.listed, expression) {
+            return common(self.alloc, elements, list);
+        }
+        match self.ontology.expr(expression) {
+            Some(Expr::Class(_)) => class_among(self.alloc, self.listed, expression, elements),
+            Some(Expr::And(operands)) => {
+                let mut those = Vec::from_slice(self.alloc, elements)?;
+                for operand in operands {
+                    those = self.those_in(*operand, &those)?;
+                }
+                Ok(those)
             }
-            Ok(those)
+            Some(Expr::Some(property, filler)) => {
+                let targets = targets_from(self.alloc, &self.listed.pairs, *property, elements)?;
+                let fillers = self.those_in(*filler, &targets)?;
+                joined_among(
+                    self.alloc,
+                    &self.listed.pairs,
+                    *property,
+                    elements,
+                    &fillers,
+                )
+            }
+            // The expression is one of the ontology.
+            None => unreachable!(),
         }
-        Some(Expr::Some(property, filler)) => {
-            let targets = targets_from(alloc, &listed.pairs, *property, elements)?;
-            let fillers = those_in(alloc, ontology, listed, kept, *filler, &targets)?;
-            joined_among(alloc, &listed.pairs, *property, elements, &fillers)
-        }
-        // The expression is one of the ontology.
-        None => unreachable!(),
     }
 }

@@ -1,19 +1,16 @@
 //! The elements of class expressions.
-ghost use Rattle.axioms.specs.View.{expr_numbers};
-ghost use Rattle.certificate.specs.Writability.{IsListedOf};
 ghost use Rattle.certificate.specs.View.{listed_of};
 ghost use Rattle.listed_model.specs.Extensions.{IsExtension};
-ghost use Rattle.listed_model.specs.Keeping.{AreKept};
 ghost use Rattle.listed_model.specs.Rows.{AreClassRows};
 ghost use Rattle.listed_model.specs.Interpretations.{class_members};
+ghost use Rattle.listed_model.specs.Testers.{IsReady};
 ghost use Rattle.std.specs.List.{range_with_len};
 ghost use Rattle.std.specs.Prelude.{◌<◌, ◌≤◌, ◌≡◌, Contains, IfOk, length};
 
-use crate::among::those_in;
-use crate::kept::Kept;
-use crate::restriction::restriction;
+use crate::restriction::Pairs;
 use crate::rows::elements_at;
-use axioms::{Expr, ExprId, Memory, Ontology};
+use crate::tester::Tester;
+use axioms::{Expr, ExprId, Memory};
 use certificate::Listed;
 use number_sets::PackedLists;
 use std::alloc::Global;
@@ -71,86 +68,79 @@ fn class_breadth(listed: &Listed, class: ExprId, bound: usize) -> usize
     bound.min(elements_at(&listed.classes, class).len())
 }
 
-// About how many steps it takes to list the elements of the expression, or the bound if that is less.
-fn breadth(
-    ontology: &Ontology,
-    listed: &Listed,
-    holders: &PackedLists,
-    expression: ExprId,
-    bound: usize,
-) -> usize
-    requires { AreClassRows listed.now.classes.items }
-    ensures { result ≤ bound }
-{
-    match ontology.expr(expression) {
-        Some(Expr::Class(_)) => class_breadth(listed, expression, bound),
-        Some(Expr::And(operands)) => {
-            let mut least = bound;
-            for operand in operands {
-                least = breadth(ontology, listed, holders, *operand, least);
+impl Tester<'_> {
+    // About how many steps it takes to list the elements of the expression, or the bound if that is less.
+    fn breadth(&self, expression: ExprId, bound: usize) -> usize
+        requires { AreClassRows self.now.listed.now.classes.items }
+        ensures { result ≤ bound }
+    {
+        match self.ontology.expr(expression) {
+            Some(Expr::Class(_)) => class_breadth(self.listed, expression, bound),
+            Some(Expr::And(operands)) => {
+                let mut least = bound;
+                for operand in operands {
+                    least = self.breadth(*operand, least);
+                }
+                least
             }
-            least
+            Some(Expr::Some(_, filler)) => {
+                let fillers = self.breadth(*filler, bound);
+                let rows = rows_to(
+                    &self.kept.holders,
+                    elements_at(&self.listed.classes, *filler),
+                    bound,
+                );
+                fillers.max(rows)
+            }
+            None => bound,
         }
-        Some(Expr::Some(_, filler)) => {
-            let fillers = breadth(ontology, listed, holders, *filler, bound);
-            let rows = rows_to(holders, elements_at(&listed.classes, *filler), bound);
-            fillers.max(rows)
-        }
-        None => bound,
     }
-}
 
-// One of the operands: the one whose elements are listed soonest.
-fn least_operand(
-    ontology: &Ontology,
-    listed: &Listed,
-    holders: &PackedLists,
-    operands: &[ExprId],
-) -> ExprId
-    requires rows { AreClassRows listed.now.classes.items }
-    requires some { 0 < length operands.now }
-    ensures { Contains operands.now result }
-{
-    let mut least = operands[0];
-    let mut bound = usize::MAX;
-    for operand in operands {
-        let found = breadth(ontology, listed, holders, *operand, bound);
-        if found < bound {
-            least = *operand;
-            bound = found;
+    // One of the operands: the one whose elements are listed soonest.
+    fn least_operand(&self, operands: &[ExprId]) -> ExprId
+        requires rows { AreClassRows self.now.listed.now.classes.items }
+        requires some { 0 < length operands.now }
+        ensures { Contains operands.now result }
+    {
+        let mut least = operands[0];
+        let mut bound = usize::MAX;
+        for operand in operands {
+            let found = self.breadth(*operand, bound);
+            if found < bound {
+                least = *operand;
+                bound = found;
+            }
         }
+        least
     }
-    least
-}
 
-/// The elements of the expression, ascending.
-pub(crate) fn elements_of(
-    alloc: Global,
-    ontology: &Ontology,
-    listed: &Listed,
-    kept: &Kept,
-    expression: ExprId,
-) -> Result<Vec<u32>, Memory>
-    requires listed { IsListedOf ontology.now (listed_of listed.now) }
-    requires kept { AreKept ontology.now listed.now kept.now }
-    requires there { expression.0 < length ontology.now.nodes }
-    ensures { IfOk result (λ elements. IsExtension ontology.now (listed_of listed.now) expression.0 elements.items) }
-{
-    if let Some(list) = kept.at(listed, expression) {
-        return Ok(Vec::from_slice(alloc, list)?);
-    }
-    match ontology.expr(expression) {
-        Some(Expr::Class(_)) => class_elements(alloc, listed, expression),
-        Some(Expr::And(operands)) => {
-            let least = least_operand(ontology, listed, &kept.holders, operands);
-            let elements = elements_of(alloc, ontology, listed, kept, least)?;
-            those_in(alloc, ontology, listed, kept, expression, &elements)
+    /// The elements of the expression, ascending.
+    pub(crate) fn elements_of(&self, expression: ExprId) -> Result<Vec<u32>, Memory>
+        requires ready { IsReady self.now }
+        requires there { expression.0 < length self.now.ontology.now.nodes }
+        ensures { IfOk result (λ elements. IsExtension self.now.ontology.now (listed_of self.now.listed.now) expression.0 elements.items) }
+    {
+        if let Some(list) = self.kept.at(self.listed, expression) {
+            return Ok(Vec::from_slice(self.alloc, list)?);
         }
-        Some(Expr::Some(property, filler)) => {
-            let fillers = elements_of(alloc, ontology, listed, kept, *filler)?;
-            restriction(alloc, &listed.pairs, &kept.holders, *property, &fillers)
+        match self.ontology.expr(expression) {
+            Some(Expr::Class(_)) => class_elements(self.alloc, self.listed, expression),
+            Some(Expr::And(operands)) => {
+                let least = self.least_operand(operands);
+                let elements = self.elements_of(least)?;
+                self.those_in(expression, &elements)
+            }
+            Some(Expr::Some(property, filler)) => {
+                let fillers = self.elements_of(*filler)?;
+                let pairs = Pairs {
+                    alloc: self.alloc,
+                    rows: &self.listed.pairs,
+                    holders: &self.kept.holders,
+                };
+                pairs.restriction(*property, &fillers)
+            }
+            // The expression is one of the ontology.
+            None => unreachable!(),
         }
-        // The expression is one of the ontology.
-        None => unreachable!(),
     }
 }

@@ -5,12 +5,13 @@ ghost use Rattle.certificate.specs.View.{listed_of};
 ghost use Rattle.certificate.specs.declared.listed.ClassRow.{ClassRow as ClassRow2};
 ghost use Rattle.listed_model.specs.Extensions.{IsExtension};
 ghost use Rattle.listed_model.specs.Keeping.{AreKept};
+ghost use Rattle.listed_model.specs.Testers.{IsReady};
 ghost use Rattle.std.specs.Prelude.{◌<◌, ◌≡◌, ◌≤◌, ◌+◌, Contains, IfOk, IfSome, IsTrue, OnOk, Some, length, slice_get};
 
-use crate::among::those_in;
 use crate::extension::class_elements;
 use crate::kept::{Kept, Place};
-use crate::restriction::{few_sources, holders_of, pair_count, take_steps};
+use crate::restriction::{Pairs, holders_of, pair_count, take_steps};
+use crate::tester::Tester;
 use axioms::{Expr, ExprId, Memory, Ontology};
 use certificate::{ClassRow, Listed};
 use number_sets::PackedLists;
@@ -57,54 +58,46 @@ fn fewest(kept: &Kept, listed: &Listed, operands: &[ExprId]) -> Option<ExprId>
     Some(least)
 }
 
-// The elements of the expression, if those of its parts are kept and the steps that are left make its list. Of these go the steps that
-// it takes, at least two for each element that is kept.
-fn few_elements(
-    alloc: Global,
-    ontology: &Ontology,
-    listed: &Listed,
-    kept: &Kept,
-    expression: ExprId,
-    left: &mut usize,
-) -> Result<Option<Vec<u32>>, Memory>
-    requires listed { IsListedOf ontology.now (listed_of listed.now) }
-    requires kept { AreKept ontology.now listed.now kept.now }
-    requires there { expression.0 < length ontology.now.nodes }
-    ensures { IfOk result (λ made. IfSome made (λ elements. IsExtension ontology.now (listed_of listed.now) expression.0 elements.items)) }
-{
-    match ontology.expr(expression) {
-        Some(Expr::Class(_)) => {
-            let elements = class_elements(alloc, listed, expression)?;
-            Ok(Some(elements))
-        }
-        Some(Expr::And(operands)) => {
-            let Some(least) = fewest(kept, listed, operands) else {
-                return Ok(None);
-            };
-            let Some(elements) = kept.at(listed, least) else {
-                return Ok(None);
-            };
-            if !take_steps(left, elements.len().saturating_mul(operands.len())) {
-                return Ok(None);
+impl Tester<'_> {
+    // The elements of the expression, if those of its parts are kept and the steps that are left make its list. Of these go the steps that
+    // it takes, at least two for each element that is kept.
+    fn few_elements(&self, expression: ExprId, left: &mut usize) -> Result<Option<Vec<u32>>, Memory>
+        requires ready { IsReady self.now }
+        requires there { expression.0 < length self.now.ontology.now.nodes }
+        ensures { IfOk result (λ made. IfSome made (λ elements. IsExtension self.now.ontology.now (listed_of self.now.listed.now) expression.0 elements.items)) }
+    {
+        match self.ontology.expr(expression) {
+            Some(Expr::Class(_)) => {
+                let elements = class_elements(self.alloc, self.listed, expression)?;
+                Ok(Some(elements))
             }
-            let those = those_in(alloc, ontology, listed, kept, expression, elements)?;
-            Ok(Some(those))
+            Some(Expr::And(operands)) => {
+                let Some(least) = fewest(self.kept, self.listed, operands) else {
+                    return Ok(None);
+                };
+                let Some(elements) = self.kept.at(self.listed, least) else {
+                    return Ok(None);
+                };
+                if !take_steps(left, elements.len().saturating_mul(operands.len())) {
+                    return Ok(None);
+                }
+                let those = self.those_in(expression, elements)?;
+                Ok(Some(those))
+            }
+            Some(Expr::Some(property, filler)) => {
+                let Some(fillers) = self.kept.at(self.listed, *filler) else {
+                    return Ok(None);
+                };
+                let pairs = Pairs {
+                    alloc: self.alloc,
+                    rows: &self.listed.pairs,
+                    holders: &self.kept.holders,
+                };
+                pairs.few_sources(*property, fillers, left)
+            }
+            // The expression is one of the ontology.
+            None => unreachable!(),
         }
-        Some(Expr::Some(property, filler)) => {
-            let Some(fillers) = kept.at(listed, *filler) else {
-                return Ok(None);
-            };
-            few_sources(
-                alloc,
-                &listed.pairs,
-                &kept.holders,
-                *property,
-                fillers,
-                left,
-            )
-        }
-        // The expression is one of the ontology.
-        None => unreachable!(),
     }
 }
 
@@ -126,7 +119,13 @@ fn keep_list(
     ensures places { OnOk result (length kept.new.places.items ≡ expression.0 + 1) }
     ensures lists { OnOk result (length kept.new.lists ≤ expression.0 + 1) }
 {
-    let made = few_elements(alloc, ontology, listed, kept, expression, left)?;
+    let tester = Tester {
+        alloc,
+        ontology,
+        listed,
+        kept: &*kept,
+    };
+    let made = tester.few_elements(expression, left)?;
     match made {
         Some(elements) => kept.put_list(&elements),
         None => kept.put(Place::Nowhere),

@@ -10,8 +10,8 @@ ghost use Rattle.std.specs.Prelude.{◌<◌, ◌≡◌, ◌^◌, ◌||◌, ◌�
 
 use crate::ascending::are_within;
 use crate::rows::{rows_of, targets_at};
-use crate::wide::{WideRow, wide_at, wide_rows};
-use crate::wide_steps::successor_set;
+use crate::wide::{wide_at, wide_rows};
+use crate::wide_steps::Steps;
 use axioms::{Memory, PropId};
 use certificate::PairRow;
 use number_sets::{EpochSet, Row};
@@ -34,27 +34,6 @@ fn add_new(found: &mut Vec<u32>, seen: &mut EpochSet, numbers: &[u32]) -> Result
     Ok(())
 }
 
-// What the property leads to from one of the sources, by the lists of their targets. The set is room to work in.
-fn listed_successors(
-    alloc: Global,
-    rows: &[PairRow],
-    seen: &mut EpochSet,
-    property: PropId,
-    sources: &[u32],
-) -> Result<Vec<u32>, Memory>
-    requires { ArePairRows rows.now }
-    ensures len { length seen.new ≡ length seen.old }
-    ensures members { IfOk result (λ found. (y : ℕ) → (holds found.items y ≡ true)
-        ↔ ((x : ℕ) × (holds sources.now x ≡ true) × (holds (targets_of (map pair_row_of rows.now) property.0 x) y ≡ true))) }
-{
-    seen.clear();
-    let mut found = Vec::new(alloc);
-    for source in sources {
-        add_new(&mut found, seen, targets_at(rows, property, *source))?;
-    }
-    Ok(found)
-}
-
 // The members of the set.
 fn members_of(alloc: Global, set: &Row) -> Result<Vec<u32>, Memory>
     requires { length set.now < 2 ^ 32 }
@@ -69,100 +48,129 @@ fn members_of(alloc: Global, set: &Row) -> Result<Vec<u32>, Memory>
     Ok(members)
 }
 
-// What the property leads to from one of the sources. The set is room to work in.
-fn successors(
-    alloc: Global,
-    rows: &[PairRow],
-    wide: &[WideRow],
-    seen: &mut EpochSet,
-    property: PropId,
-    sources: &[u32],
-) -> Result<Vec<u32>, Memory>
-    requires rows { ArePairRows rows.now }
-    requires wide { AreWide (map pair_row_of rows.now) (length seen.old) wide.now }
-    ensures len { length seen.new ≡ length seen.old }
-    ensures members { IfOk result (λ found. (y : ℕ) → (holds found.items y ≡ true)
-        ↔ ((x : ℕ) × (holds sources.now x ≡ true) × (holds (targets_of (map pair_row_of rows.now) property.0 x) y ≡ true))) }
-{
-    let bound = seen.len();
-    let some_wide = sources
-        .iter()
-        .any(|source| wide_at(wide, property, *source).is_some());
-    if some_wide && bound <= u32::MAX as usize {
-        if let Some(set) = successor_set(alloc, rows, wide, property, sources, bound)? {
-            return members_of(alloc, &set);
+impl Steps<'_> {
+    // What the property leads to from one of the sources, by the lists of their targets. The set is room to work in.
+    fn listed_successors(
+        &self,
+        seen: &mut EpochSet,
+        property: PropId,
+        sources: &[u32],
+    ) -> Result<Vec<u32>, Memory>
+        requires { ArePairRows self.now.rows.now }
+        ensures len { length seen.new ≡ length seen.old }
+        ensures members { IfOk result (λ found. (y : ℕ) → (holds found.items y ≡ true)
+            ↔ ((x : ℕ) × (holds sources.now x ≡ true) × (holds (targets_of (map pair_row_of self.now.rows.now) property.0 x) y ≡ true))) }
+    {
+        seen.clear();
+        let mut found = Vec::new(self.alloc);
+        for source in sources {
+            add_new(&mut found, seen, targets_at(self.rows, property, *source))?;
         }
+        Ok(found)
     }
-    listed_successors(alloc, rows, seen, property, sources)
+
+    // What the property leads to from one of the sources. The set is room to work in.
+    fn successors(
+        &self,
+        seen: &mut EpochSet,
+        property: PropId,
+        sources: &[u32],
+    ) -> Result<Vec<u32>, Memory>
+        requires rows { ArePairRows self.now.rows.now }
+        requires wide { AreWide (map pair_row_of self.now.rows.now) (length seen.old) self.now.wide.now }
+        ensures len { length seen.new ≡ length seen.old }
+        ensures members { IfOk result (λ found. (y : ℕ) → (holds found.items y ≡ true)
+            ↔ ((x : ℕ) × (holds sources.now x ≡ true) × (holds (targets_of (map pair_row_of self.now.rows.now) property.0 x) y ≡ true))) }
+    {
+        let wide = self.wide;
+        let bound = seen.len();
+        let some_wide = sources
+            .iter()
+            .any(|source| wide_at(wide, property, *source).is_some());
+        if some_wide && bound <= u32::MAX as usize {
+            if let Some(set) = self.successor_set(property, sources, bound)? {
+                return members_of(self.alloc, &set);
+            }
+        }
+        self.listed_successors(seen, property, sources)
+    }
 }
 
-// The ends of the paths along the chain from one of the sources. The set is room to work in.
-fn ends_of(
-    alloc: Global,
-    rows: &[PairRow],
-    wide: &[WideRow],
-    seen: &mut EpochSet,
-    chain: &[PropId],
-    sources: &[u32],
-) -> Result<Vec<u32>, Memory>
-    requires rows { ArePairRows rows.now }
-    requires wide { AreWide (map pair_row_of rows.now) (length seen.old) wide.now }
-    ensures len { length seen.new ≡ length seen.old }
-    ensures members { IfOk result (λ ends. AreEnds (map pair_row_of rows.now) (prop_numbers chain.now) sources.now ends.items) }
-{
-    let mut ends = Vec::from_slice(alloc, sources)?;
-    for property in chain {
-        ends = successors(alloc, rows, wide, seen, *property, &ends)?;
-    }
-    Ok(ends)
+// Paths along a chain of properties.
+#[derive(Clone, Copy)]
+struct Paths<'a> {
+    steps: Steps<'a>,
+    chain: &'a [PropId],
 }
 
-// The ends of the paths along the chain from one of the sources, where those from one of the last sources are known. The set is room
-// to work in.
-fn next_ends(
-    alloc: Global,
-    rows: &[PairRow],
-    wide: &[WideRow],
-    seen: &mut EpochSet,
-    chain: &[PropId],
-    last: &[u32],
-    ends: Vec<u32>,
-    sources: &[u32],
-) -> Result<Vec<u32>, Memory>
-    requires rows { ArePairRows rows.now }
-    requires wide { AreWide (map pair_row_of rows.now) (length seen.old) wide.now }
-    requires last { AreEnds (map pair_row_of rows.now) (prop_numbers chain.now) last.now ends.items }
-    ensures len { length seen.new ≡ length seen.old }
-    ensures members { IfOk result (λ next. AreEnds (map pair_row_of rows.now) (prop_numbers chain.now) sources.now next.items) }
-{
-    if sources == last {
-        return Ok(ends);
+impl Paths<'_> {
+    // The ends of the paths along the chain from one of the sources. The set is room to work in.
+    fn ends_of(&self, seen: &mut EpochSet, sources: &[u32]) -> Result<Vec<u32>, Memory>
+        requires rows { ArePairRows self.now.steps.rows.now }
+        requires wide { AreWide (map pair_row_of self.now.steps.rows.now) (length seen.old) self.now.steps.wide.now }
+        ensures len { length seen.new ≡ length seen.old }
+        ensures members { IfOk result (λ ends. AreEnds (map pair_row_of self.now.steps.rows.now) (prop_numbers self.now.chain.now) sources.now ends.items) }
+    {
+        let mut ends = Vec::from_slice(self.steps.alloc, sources)?;
+        for property in self.chain {
+            ends = self.steps.successors(seen, *property, &ends)?;
+        }
+        Ok(ends)
     }
-    ends_of(alloc, rows, wide, seen, chain, sources)
+
+    // The ends of the paths along the chain from one of the sources, where those from one of the last sources are known. The set is room
+    // to work in.
+    fn next_ends(
+        &self,
+        seen: &mut EpochSet,
+        last: &[u32],
+        ends: Vec<u32>,
+        sources: &[u32],
+    ) -> Result<Vec<u32>, Memory>
+        requires rows { ArePairRows self.now.steps.rows.now }
+        requires wide { AreWide (map pair_row_of self.now.steps.rows.now) (length seen.old) self.now.steps.wide.now }
+        requires last { AreEnds (map pair_row_of self.now.steps.rows.now) (prop_numbers self.now.chain.now) last.now ends.items }
+        ensures len { length seen.new ≡ length seen.old }
+        ensures members { IfOk result (λ next. AreEnds (map pair_row_of self.now.steps.rows.now) (prop_numbers self.now.chain.now) sources.now next.items) }
+    {
+        if sources == last {
+            return Ok(ends);
+        }
+        self.ends_of(seen, sources)
+    }
 }
 
-/// Whether each path along the property and then the chain is a pair of the property above. The set is room to work in.
-pub(crate) fn is_chain_within(
+/// Whether each path along the chain is a pair of the property above. The set is room to work in.
+pub(crate) fn is_chain_within<'a>(
     alloc: Global,
-    rows: &[PairRow],
+    rows: &'a [PairRow],
     seen: &mut EpochSet,
-    first: PropId,
-    rest: &[PropId],
+    chain: &'a [PropId],
     above: PropId,
 ) -> Result<bool, Memory>
-    requires { ArePairRows rows.now }
+    requires rows { ArePairRows rows.now }
+    requires some { 0 < length chain.now }
     ensures len { length seen.new ≡ length seen.old }
-    ensures within { IfOk result (λ within. IsTrue within ↔ ((x y : ℕ) → (z : ℕ)
-        → holds (targets_of (map pair_row_of rows.now) first.0 x) z ≡ true → HasListedPath (map pair_row_of rows.now) (prop_numbers rest.now) z y
+    ensures within { IfOk result (λ within. IsTrue within ↔ ((x y : ℕ) → HasListedPath (map pair_row_of rows.now) (prop_numbers chain.now) x y
         → holds (targets_of (map pair_row_of rows.now) above.0 x) y ≡ true)) }
 {
+    let first = chain[0];
+    let rest = &chain[1..];
     let items = rows_of(rows, first);
     let wide = wide_rows(alloc, rows, items.len(), rest, seen.len())?;
+    let paths = Paths {
+        steps: Steps {
+            alloc,
+            rows,
+            wide: &wide,
+        },
+        chain: rest,
+    };
     let mut last: &[u32] = &[];
     let mut ends = Vec::new(alloc);
     for row in items {
         let sources = row.targets.as_slice();
-        ends = next_ends(alloc, rows, &wide, seen, rest, last, ends, sources)?;
+        ends = paths.next_ends(seen, last, ends, sources)?;
         last = sources;
         if !are_within(&ends, targets_at(rows, above, row.source)) {
             return Ok(false);

@@ -57,95 +57,6 @@ fn add_sources(sources: &mut Vec<u32>, rows: &[PairRow], places: &[u32]) -> Resu
     Ok(())
 }
 
-// The elements that the property joins to one of the fillers, by the fillers; none where more rows than the most have
-// fillers, each counted once for each filler. The rows of the property stand together, so of the places of a filler's rows those that
-// are of the property do, too.
-fn by_fillers(
-    alloc: Global,
-    rows: &[PairRow],
-    holders: &PackedLists,
-    property: PropId,
-    fillers: &[u32],
-    most: usize,
-) -> Result<Option<Vec<u32>>, Memory>
-    requires rows { ArePairRows rows.now }
-    requires holders { (y : ℕ) → holds fillers.now y ≡ true → IsHolders rows.now y (list_at holders.now y) }
-    ensures { IfOk result (λ found. IfSome found (λ sources. (x : ℕ) → (holds sources.items x ≡ true) ↔ Joined (map pair_row_of rows.now) property.0 fillers.now x)) }
-{
-    let start = start_of(rows, property);
-    let end = end_of(rows, property);
-    let mut sources = Vec::new(alloc);
-    for filler in fillers {
-        let places = between(holders.at(*filler as usize), start, end);
-        add_sources(&mut sources, rows, places)?;
-        if sources.len() > most {
-            return Ok(None);
-        }
-    }
-    Ok(Some(sources))
-}
-
-// The elements that the property joins to one of the fillers, by the rows of the property.
-fn by_rows(
-    alloc: Global,
-    rows: &[PairRow],
-    property: PropId,
-    fillers: &[u32],
-) -> Result<Vec<u32>, Memory>
-    requires rows { ArePairRows rows.now }
-    requires fillers { IsStrictlyIncreasing fillers.now }
-    ensures { IfOk result (λ sources. (x : ℕ) → (holds sources.items x ≡ true) ↔ Joined (map pair_row_of rows.now) property.0 fillers.now x) }
-{
-    let mut sources = Vec::new(alloc);
-    for row in rows_of(rows, property) {
-        if have_common(row.targets.as_slice(), fillers) {
-            sources.push(row.source)?;
-        }
-    }
-    Ok(sources)
-}
-
-// The elements that the property joins to one of the fillers, by what is less work.
-fn by_either(
-    alloc: Global,
-    rows: &[PairRow],
-    holders: &PackedLists,
-    property: PropId,
-    fillers: &[u32],
-) -> Result<Vec<u32>, Memory>
-    requires rows { ArePairRows rows.now }
-    requires fillers { IsStrictlyIncreasing fillers.now }
-    requires holders { (y : ℕ) → holds fillers.now y ≡ true → IsHolders rows.now y (list_at holders.now y) }
-    ensures { IfOk result (λ sources. (x : ℕ) → (holds sources.items x ≡ true) ↔ Joined (map pair_row_of rows.now) property.0 fillers.now x) }
-{
-    let most = rows_of(rows, property).len();
-    if fillers.len() < most {
-        if let Some(sources) = by_fillers(alloc, rows, holders, property, fillers, most)? {
-            return Ok(sources);
-        }
-    }
-    by_rows(alloc, rows, property, fillers)
-}
-
-/// The elements that the property joins to one of the fillers, ascending.
-pub(crate) fn restriction(
-    alloc: Global,
-    rows: &[PairRow],
-    holders: &PackedLists,
-    property: PropId,
-    fillers: &[u32],
-) -> Result<Vec<u32>, Memory>
-    requires rows { ArePairRows rows.now }
-    requires fillers { IsStrictlyIncreasing fillers.now }
-    requires holders { (y : ℕ) → holds fillers.now y ≡ true → IsHolders rows.now y (list_at holders.now y) }
-    ensures ascending { IfOk result (λ sources. IsStrictlyIncreasing sources.items) }
-    ensures members { IfOk result (λ sources. (x : ℕ) → (holds sources.items x ≡ true) ↔ Joined (map pair_row_of rows.now) property.0 fillers.now x) }
-{
-    let mut sources = by_either(alloc, rows, holders, property, fillers)?;
-    put_in_order(&mut sources);
-    Ok(sources)
-}
-
 /// How many pairs the rows have.
 pub(crate) fn pair_count(rows: &[PairRow]) -> usize {
     let mut count: usize = 0;
@@ -164,57 +75,133 @@ pub(crate) fn take_steps(left: &mut usize, steps: usize) -> bool {
     true
 }
 
-// The elements that the property joins to one of the fillers, if the steps that are left list them. Going over rows takes at most as
-// many as they have pairs.
-fn few_by_either(
-    alloc: Global,
-    rows: &[PairRow],
-    holders: &PackedLists,
-    property: PropId,
-    fillers: &[u32],
-    left: &mut usize,
-) -> Result<Option<Vec<u32>>, Memory>
-    requires rows { ArePairRows rows.now }
-    requires fillers { IsStrictlyIncreasing fillers.now }
-    requires holders { (y : ℕ) → holds fillers.now y ≡ true → IsHolders rows.now y (list_at holders.now y) }
-    ensures { IfOk result (λ found. IfSome found (λ sources. (x : ℕ) → (holds sources.items x ≡ true) ↔ Joined (map pair_row_of rows.now) property.0 fillers.now x)) }
-{
-    let own = rows_of(rows, property);
-    let most = own.len().saturating_mul(4);
-    if fillers.len() < own.len() && take_steps(left, fillers.len()) {
-        if let Some(sources) = by_fillers(alloc, rows, holders, property, fillers, most)? {
-            return Ok(Some(sources));
-        }
-        *left = left.saturating_sub(most);
-    }
-    if !take_steps(left, own.len()) || !take_steps(left, pair_count(own)) {
-        return Ok(None);
-    }
-    let sources = by_rows(alloc, rows, property, fillers)?;
-    Ok(Some(sources))
+/// Rows of pairs, and for each element the places of those that have it among their targets.
+#[derive(Clone, Copy)]
+pub(crate) struct Pairs<'a> {
+    pub alloc: Global,
+    pub rows: &'a [PairRow],
+    pub holders: &'a PackedLists,
 }
 
-/// The elements that the property joins to one of the fillers, ascending, if the steps that are left list them. Of these go what it
-/// takes, and one for each element.
-pub(crate) fn few_sources(
-    alloc: Global,
-    rows: &[PairRow],
-    holders: &PackedLists,
-    property: PropId,
-    fillers: &[u32],
-    left: &mut usize,
-) -> Result<Option<Vec<u32>>, Memory>
-    requires rows { ArePairRows rows.now }
-    requires fillers { IsStrictlyIncreasing fillers.now }
-    requires holders { (y : ℕ) → holds fillers.now y ≡ true → IsHolders rows.now y (list_at holders.now y) }
-    ensures { IfOk result (λ found. IfSome found (λ sources. IsStrictlyIncreasing sources.items
-        × ((x : ℕ) → (holds sources.items x ≡ true) ↔ Joined (map pair_row_of rows.now) property.0 fillers.now x))) }
-{
-    let Some(mut sources) = few_by_either(alloc, rows, holders, property, fillers, left)? else {
-        return Ok(None);
-    };
-    *left = left.saturating_sub(sources.len());
-    put_in_order(&mut sources);
-    *left = left.saturating_sub(sources.len());
-    Ok(Some(sources))
+impl Pairs<'_> {
+    // The elements that the property joins to one of the fillers, by the fillers; none where more rows than the most have
+    // fillers, each counted once for each filler. The rows of the property stand together, so of the places of a filler's rows those that
+    // are of the property do, too.
+    fn by_fillers(
+        &self,
+        property: PropId,
+        fillers: &[u32],
+        most: usize,
+    ) -> Result<Option<Vec<u32>>, Memory>
+        requires rows { ArePairRows self.now.rows.now }
+        requires holders { (y : ℕ) → holds fillers.now y ≡ true → IsHolders self.now.rows.now y (list_at self.now.holders.now y) }
+        ensures { IfOk result (λ found. IfSome found (λ sources. (x : ℕ) → (holds sources.items x ≡ true) ↔ Joined (map pair_row_of self.now.rows.now) property.0 fillers.now x)) }
+    {
+        let start = start_of(self.rows, property);
+        let end = end_of(self.rows, property);
+        let mut sources = Vec::new(self.alloc);
+        for filler in fillers {
+            let places = between(self.holders.at(*filler as usize), start, end);
+            add_sources(&mut sources, self.rows, places)?;
+            if sources.len() > most {
+                return Ok(None);
+            }
+        }
+        Ok(Some(sources))
+    }
+
+    // The elements that the property joins to one of the fillers, by the rows of the property.
+    fn by_rows(&self, property: PropId, fillers: &[u32]) -> Result<Vec<u32>, Memory>
+        requires rows { ArePairRows self.now.rows.now }
+        requires fillers { IsStrictlyIncreasing fillers.now }
+        ensures { IfOk result (λ sources. (x : ℕ) → (holds sources.items x ≡ true) ↔ Joined (map pair_row_of self.now.rows.now) property.0 fillers.now x) }
+    {
+        let mut sources = Vec::new(self.alloc);
+        for row in rows_of(self.rows, property) {
+            if have_common(row.targets.as_slice(), fillers) {
+                sources.push(row.source)?;
+            }
+        }
+        Ok(sources)
+    }
+
+    // The elements that the property joins to one of the fillers, by what is less work.
+    fn by_either(&self, property: PropId, fillers: &[u32]) -> Result<Vec<u32>, Memory>
+        requires rows { ArePairRows self.now.rows.now }
+        requires fillers { IsStrictlyIncreasing fillers.now }
+        requires holders { (y : ℕ) → holds fillers.now y ≡ true → IsHolders self.now.rows.now y (list_at self.now.holders.now y) }
+        ensures { IfOk result (λ sources. (x : ℕ) → (holds sources.items x ≡ true) ↔ Joined (map pair_row_of self.now.rows.now) property.0 fillers.now x) }
+    {
+        let most = rows_of(self.rows, property).len();
+        if fillers.len() < most {
+            if let Some(sources) = self.by_fillers(property, fillers, most)? {
+                return Ok(sources);
+            }
+        }
+        self.by_rows(property, fillers)
+    }
+
+    /// The elements that the property joins to one of the fillers, ascending.
+    pub(crate) fn restriction(&self, property: PropId, fillers: &[u32]) -> Result<Vec<u32>, Memory>
+        requires rows { ArePairRows self.now.rows.now }
+        requires fillers { IsStrictlyIncreasing fillers.now }
+        requires holders { (y : ℕ) → holds fillers.now y ≡ true → IsHolders self.now.rows.now y (list_at self.now.holders.now y) }
+        ensures ascending { IfOk result (λ sources. IsStrictlyIncreasing sources.items) }
+        ensures members { IfOk result (λ sources. (x : ℕ) → (holds sources.items x ≡ true) ↔ Joined (map pair_row_of self.now.rows.now) property.0 fillers.now x) }
+    {
+        let mut sources = self.by_either(property, fillers)?;
+        put_in_order(&mut sources);
+        Ok(sources)
+    }
+
+    // The elements that the property joins to one of the fillers, if the steps that are left list them. Going over rows takes at most as
+    // many as they have pairs.
+    fn few_by_either(
+        &self,
+        property: PropId,
+        fillers: &[u32],
+        left: &mut usize,
+    ) -> Result<Option<Vec<u32>>, Memory>
+        requires rows { ArePairRows self.now.rows.now }
+        requires fillers { IsStrictlyIncreasing fillers.now }
+        requires holders { (y : ℕ) → holds fillers.now y ≡ true → IsHolders self.now.rows.now y (list_at self.now.holders.now y) }
+        ensures { IfOk result (λ found. IfSome found (λ sources. (x : ℕ) → (holds sources.items x ≡ true) ↔ Joined (map pair_row_of self.now.rows.now) property.0 fillers.now x)) }
+    {
+        let own = rows_of(self.rows, property);
+        let most = own.len().saturating_mul(4);
+        if fillers.len() < own.len() && take_steps(left, fillers.len()) {
+            if let Some(sources) = self.by_fillers(property, fillers, most)? {
+                return Ok(Some(sources));
+            }
+            *left = left.saturating_sub(most);
+        }
+        if !take_steps(left, own.len()) || !take_steps(left, pair_count(own)) {
+            return Ok(None);
+        }
+        let sources = self.by_rows(property, fillers)?;
+        Ok(Some(sources))
+    }
+
+    /// The elements that the property joins to one of the fillers, ascending, if the steps that are left list them. Of these go what it
+    /// takes, and one for each element.
+    pub(crate) fn few_sources(
+        &self,
+        property: PropId,
+        fillers: &[u32],
+        left: &mut usize,
+    ) -> Result<Option<Vec<u32>>, Memory>
+        requires rows { ArePairRows self.now.rows.now }
+        requires fillers { IsStrictlyIncreasing fillers.now }
+        requires holders { (y : ℕ) → holds fillers.now y ≡ true → IsHolders self.now.rows.now y (list_at self.now.holders.now y) }
+        ensures { IfOk result (λ found. IfSome found (λ sources. IsStrictlyIncreasing sources.items
+            × ((x : ℕ) → (holds sources.items x ≡ true) ↔ Joined (map pair_row_of self.now.rows.now) property.0 fillers.now x))) }
+    {
+        let Some(mut sources) = self.few_by_either(property, fillers, left)? else {
+            return Ok(None);
+        };
+        *left = left.saturating_sub(sources.len());
+        put_in_order(&mut sources);
+        *left = left.saturating_sub(sources.len());
+        Ok(Some(sources))
+    }
 }

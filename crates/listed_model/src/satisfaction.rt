@@ -7,48 +7,23 @@ ghost use Rattle.certificate.specs.View.{listed_of, pair_row_of};
 ghost use Rattle.interpretation_spec.specs.NamedInterpretation.{IsFirstUnsatisfied};
 ghost use Rattle.interpretation_spec.specs.Interpretation.{Interpretation, IsInterpretation, IsModel};
 ghost use Rattle.listed_model.specs.Interpretations.{SatisfiesListed, listed_interpretation};
-ghost use Rattle.listed_model.specs.Keeping.{AreKept};
 ghost use Rattle.listed_model.specs.Listing.{IsListing, element_of, targets_of};
 ghost use Rattle.listed_model.specs.Members.{holds};
 ghost use Rattle.listed_model.specs.Rows.{ArePairRows, HasListedPath};
 ghost use Rattle.listed_model.specs.PropertyTests.{AreShown};
-ghost use Rattle.std.specs.Prelude.{◌≡◌, ◌↔◌, ◌<◌, IfOk, IsNone, IfSome, IsTrue, List, MatchOption, OnOk, length, map, true, ℕ};
+ghost use Rattle.listed_model.specs.Testers.{IsReady};
+ghost use Rattle.std.specs.Prelude.{◌≡◌, ◌↔◌, ◌<◌, IfOk, IsNone, IfSome, IsTrue, MatchOption, OnOk, length, map, true, ℕ};
 
-use crate::class_axioms::{are_apart, are_same, has_domain, is_in, is_within};
 use crate::individual_axioms::{element_at, have_one_element, have_own_elements};
 use crate::keeping::kept_of;
-use crate::kept::Kept;
 use crate::paths::is_chain_within;
 use crate::property_axioms::{are_same_properties, is_reflexive, leads_to};
-use crate::shown::{Shown, is_closed, lies_within};
+use crate::room::Room;
+use crate::shown::{is_closed, lies_within};
+use crate::tester::Tester;
 use axioms::{Axiom, IndId, Memory, Ontology, PropId};
 use certificate::{Listed, PairRow};
-use number_sets::EpochSet;
 use std::alloc::Global;
-
-// What tests work with: two sets of elements, and what was shown of properties.
-#[derive(Drop)]
-struct Room {
-    seen: EpochSet,
-    done: EpochSet,
-    shown: Shown,
-}
-
-impl Room {
-    // Room for so many elements, with nothing shown.
-    fn new(alloc: Global, domain: usize) -> Result<Room, Memory>
-        ensures seen { IfOk result (λ room. length room.seen ≡ domain) }
-        ensures shown { IfOk result (λ room. (rows : List (ℕ × ℕ × List ℕ)) → AreShown rows room.shown) }
-    {
-        let seen = EpochSet::new(alloc, domain)?;
-        let done = EpochSet::new(alloc, domain)?;
-        Ok(Room {
-            seen,
-            done,
-            shown: Shown::new(alloc),
-        })
-    }
-}
 
 // Whether each path along the chain is a pair of the property above.
 fn is_sub_property(
@@ -66,12 +41,10 @@ fn is_sub_property(
     ensures within { IfOk result (λ within. IsTrue within ↔ ((x y : ℕ) → HasListedPath (map pair_row_of rows.now) (prop_numbers chain.now) x y
         → holds (targets_of (map pair_row_of rows.now) above.0 x) y ≡ true)) }
 {
-    let first = chain[0];
-    let rest = &chain[1..];
-    if rest.is_empty() {
-        return lies_within(rows, &mut room.shown, first, above);
+    if chain.len() == 1 {
+        return lies_within(rows, &mut room.shown, chain[0], above);
     }
-    is_chain_within(alloc, rows, &mut room.seen, first, rest, above)
+    is_chain_within(alloc, rows, &mut room.seen, chain, above)
 }
 
 // Whether the property joins the elements of the individuals.
@@ -86,92 +59,73 @@ fn joins(listed: &Listed, property: PropId, source: IndId, target: IndId) -> boo
     leads_to(&listed.pairs, property, source, target)
 }
 
-// Whether the axiom holds.
-fn satisfies(
-    alloc: Global,
-    ontology: &Ontology,
-    listed: &Listed,
-    kept: &Kept,
-    room: &mut Room,
-    axiom: &Axiom,
-) -> Result<bool, Memory>
-    requires listed { IsListedOf ontology.now (listed_of listed.now) }
-    requires kept { AreKept ontology.now listed.now kept.now }
-    requires room { length room.old.seen ≡ listed.now.domain }
-    requires shown { AreShown (map pair_row_of listed.now.pairs.items) room.old.shown }
-    requires of { IsAxiomOf ontology.now (axiom_of «axiom».now) }
-    ensures len { length room.new.seen ≡ length room.old.seen }
-    ensures shown { OnOk result (AreShown (map pair_row_of listed.now.pairs.items) room.new.shown) }
-    ensures satisfied { IfOk result (λ holds. IsTrue holds ↔ SatisfiesListed ontology.now (listed_of listed.now) (axiom_of «axiom».now)) }
-{
-    ontology.well_formed();
-    match axiom {
-        Axiom::SubClass(sub, sup) => is_within(alloc, ontology, listed, kept, *sub, *sup),
-        Axiom::EquivalentClasses(operands) => are_same(alloc, ontology, listed, kept, operands),
-        Axiom::DisjointClasses(operands) => {
-            are_apart(alloc, ontology, listed, kept, &mut room.seen, operands)
-        }
-        Axiom::SubProperty(chain, above) => {
-            is_sub_property(alloc, &listed.pairs, room, chain, *above)
-        }
-        Axiom::EquivalentProperties(properties) => {
-            Ok(are_same_properties(&listed.pairs, properties))
-        }
-        Axiom::Domain(property, class) => {
-            has_domain(alloc, ontology, listed, kept, *property, *class)
-        }
-        Axiom::Transitive(property) => {
-            is_closed(
-                alloc,
-                &listed.pairs,
-                &mut room.seen,
-                &mut room.done,
-                &mut room.shown,
+impl Tester<'_> {
+    // Whether the axiom holds.
+    fn satisfies(&self, room: &mut Room, axiom: &Axiom) -> Result<bool, Memory>
+        requires ready { IsReady self.now }
+        requires room { length room.old.seen ≡ self.now.listed.now.domain }
+        requires shown { AreShown (map pair_row_of self.now.listed.now.pairs.items) room.old.shown }
+        requires of { IsAxiomOf self.now.ontology.now (axiom_of «axiom».now) }
+        ensures len { length room.new.seen ≡ length room.old.seen }
+        ensures shown { OnOk result (AreShown (map pair_row_of self.now.listed.now.pairs.items) room.new.shown) }
+        ensures satisfied { IfOk result (λ holds. IsTrue holds ↔ SatisfiesListed self.now.ontology.now (listed_of self.now.listed.now) (axiom_of «axiom».now)) }
+    {
+        self.ontology.well_formed();
+        match axiom {
+            Axiom::SubClass(sub, sup) => self.is_within(*sub, *sup),
+            Axiom::EquivalentClasses(operands) => self.are_same(operands),
+            Axiom::DisjointClasses(operands) => self.are_apart(&mut room.seen, operands),
+            Axiom::SubProperty(chain, above) => {
+                is_sub_property(self.alloc, &self.listed.pairs, room, chain, *above)
+            }
+            Axiom::EquivalentProperties(properties) => {
+                Ok(are_same_properties(&self.listed.pairs, properties))
+            }
+            Axiom::Domain(property, class) => self.has_domain(*property, *class),
+            Axiom::Transitive(property) => {
+                is_closed(self.alloc, &self.listed.pairs, room, *property)
+            }
+            Axiom::Reflexive(property) => Ok(is_reflexive(
+                &self.listed.pairs,
+                self.listed.domain,
                 *property,
-            )
-        }
-        Axiom::Reflexive(property) => Ok(is_reflexive(&listed.pairs, listed.domain, *property)),
-        Axiom::ClassAssertion(class, individual) => {
-            let element = element_at(&listed.individuals, *individual);
-            is_in(alloc, ontology, listed, kept, *class, element)
-        }
-        Axiom::PropertyAssertion(property, source, target) => {
-            Ok(joins(listed, *property, *source, *target))
-        }
-        Axiom::SameIndividuals(individuals) => {
-            Ok(have_one_element(&listed.individuals, individuals))
-        }
-        Axiom::DifferentIndividuals(individuals) => Ok(have_own_elements(
-            &listed.individuals,
-            &mut room.seen,
-            individuals,
-        )),
-        Axiom::NegativePropertyAssertion(property, source, target) => {
-            Ok(!joins(listed, *property, *source, *target))
+            )),
+            Axiom::ClassAssertion(class, individual) => {
+                let element = element_at(&self.listed.individuals, *individual);
+                self.is_in(*class, element)
+            }
+            Axiom::PropertyAssertion(property, source, target) => {
+                Ok(joins(self.listed, *property, *source, *target))
+            }
+            Axiom::SameIndividuals(individuals) => {
+                Ok(have_one_element(&self.listed.individuals, individuals))
+            }
+            Axiom::DifferentIndividuals(individuals) => Ok(have_own_elements(
+                &self.listed.individuals,
+                &mut room.seen,
+                individuals,
+            )),
+            Axiom::NegativePropertyAssertion(property, source, target) => {
+                Ok(!joins(self.listed, *property, *source, *target))
+            }
         }
     }
-}
 
-// The least number, from 1, of an axiom that does not hold.
-fn first_failing(
-    alloc: Global,
-    ontology: &Ontology,
-    listed: &Listed,
-    kept: &Kept,
-) -> Result<Option<usize>, Memory>
-    requires listed { IsListedOf ontology.now (listed_of listed.now) }
-    requires kept { AreKept ontology.now listed.now kept.now }
-    ensures model { IfOk result (λ found. IsNone found → IsModel (listed_interpretation ontology.now (listed_of listed.now)) (axiom_trees ontology.now)) }
-    ensures first { IfOk result (λ found. IfSome found (IsFirstUnsatisfied ontology.now (listed_interpretation ontology.now (listed_of listed.now)))) }
-{
-    ontology.well_formed();
-    let mut room = Room::new(alloc, listed.domain as usize)?;
-    for (index, axiom) in ontology.axioms().iter().enumerate() {
-        if !satisfies(alloc, ontology, listed, kept, &mut room, axiom)? {
-            return Ok(Some(index + 1));
+    // The least number, from 1, of an axiom that does not hold.
+    fn first_failing(&self) -> Result<Option<usize>, Memory>
+        requires ready { IsReady self.now }
+        ensures model { IfOk result (λ found. IsNone found → IsModel (listed_interpretation self.now.ontology.now (listed_of self.now.listed.now)) (axiom_trees self.now.ontology.now)) }
+        ensures first { IfOk result (λ found. IfSome found (IsFirstUnsatisfied self.now.ontology.now (listed_interpretation self.now.ontology.now (listed_of self.now.listed.now)))) }
+    {
+        self.ontology.well_formed();
+        let mut room = Room::new(self.alloc, self.listed.domain as usize)?;
+        for (index, axiom) in self.ontology.axioms().iter().enumerate() {
+            if !self.satisfies(&mut room, axiom)? {
+                return Ok(Some(index + 1));
+            }
         }
+        Ok(None)
     }
-    Ok(None)
 }
 
 /// The least number, from 1, of an axiom that the listed interpretation does not satisfy. It fails where memory is refused, or
@@ -187,5 +141,11 @@ pub fn first_unsatisfied(
 {
     ontology.well_formed();
     let kept = kept_of(alloc, ontology, listed)?;
-    first_failing(alloc, ontology, listed, &kept)
+    let tester = Tester {
+        alloc,
+        ontology,
+        listed,
+        kept: &kept,
+    };
+    tester.first_failing()
 }

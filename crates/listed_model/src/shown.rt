@@ -5,10 +5,10 @@ ghost use Rattle.listed_model.specs.PropertyTests.{AreShown};
 ghost use Rattle.std.specs.Prelude.{◌≡◌, ◌↔◌, IfOk, IsTrue, List, OnOk, length, map, ℕ};
 
 use crate::property_axioms::are_pairs_within;
+use crate::room::Room;
 use crate::transitive::is_transitive;
 use axioms::{Memory, PropId};
 use certificate::PairRow;
-use number_sets::EpochSet;
 use std::alloc::Global;
 use std::collections::BTreeSet;
 
@@ -54,27 +54,25 @@ pub(crate) fn lies_within(
     Ok(true)
 }
 
-/// Whether the property leads in one step to all that it leads to in two. The sets are room to work in.
+/// Whether the property leads in one step to all that it leads to in two.
 pub(crate) fn is_closed(
     alloc: Global,
     rows: &[PairRow],
-    covered: &mut EpochSet,
-    done: &mut EpochSet,
-    shown: &mut Shown,
+    room: &mut Room,
     property: PropId,
 ) -> Result<bool, Memory>
     requires rows { ArePairRows rows.now }
-    requires shown { AreShown (map pair_row_of rows.now) shown.old }
-    ensures len { length covered.new ≡ length covered.old }
-    ensures shown { OnOk result (AreShown (map pair_row_of rows.now) shown.new) }
+    requires shown { AreShown (map pair_row_of rows.now) room.old.shown }
+    ensures len { length room.new.seen ≡ length room.old.seen }
+    ensures shown { OnOk result (AreShown (map pair_row_of rows.now) room.new.shown) }
     ensures transitive { IfOk result (λ transitive. IsTrue transitive ↔ ((x : ℕ) → ClosedAt (map pair_row_of rows.now) property.0 x)) }
 {
-    if shown.transitive.contains(&property.0) {
+    if room.shown.transitive.contains(&property.0) {
         return Ok(true);
     }
-    if !is_transitive(alloc, rows, covered, done, property)? {
+    if !is_transitive(alloc, rows, &mut room.seen, &mut room.done, property)? {
         return Ok(false);
     }
-    shown.transitive.insert(property.0)?;
+    room.shown.transitive.insert(property.0)?;
     Ok(true)
 }

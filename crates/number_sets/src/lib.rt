@@ -9,7 +9,6 @@ mod packed_lists;
 mod row;
 mod row_words;
 mod search;
-mod turning;
 mod words;
 
 pub use ascending::sort_ascending;
@@ -19,4 +18,3 @@ pub use open_lists::OpenLists;
 pub use packed_lists::PackedLists;
 pub use row::Row;
 pub use search::{Found, NumberSearch};
-pub use turning::turned;

@@ -10,6 +10,6 @@ use Rattle.listed_model.proofs.paths.is_chain_within.Given as goal
 abbrev pub invariant-loop-row : goal.invariant-loop-row
 invariant-loop-row l = record {
   len : length l.seen ≡ length l.fn.seen;
-  last : AreEnds (map pair_row_of l.rows) (prop_numbers l.rest) l.last l.ends.items;
-  each : AllBefore (λ (row : PairRow). (z y : ℕ) → holds (targets_in row.targets) z ≡ true → HasListedPath (map pair_row_of l.rows) (prop_numbers l.rest) z y → holds (targets_of (map pair_row_of l.rows) l.fn.above.0 row.source) y ≡ true) l.items l.row-index;
+  last : AreEnds (map pair_row_of l.rows) (prop_numbers l.paths.chain.now) l.last l.ends.items;
+  each : AllBefore (λ (row : PairRow). (z y : ℕ) → holds (targets_in row.targets) z ≡ true → HasListedPath (map pair_row_of l.rows) (prop_numbers l.paths.chain.now) z y → holds (targets_of (map pair_row_of l.rows) l.fn.above.0 row.source) y ≡ true) l.items l.row-index;
 }

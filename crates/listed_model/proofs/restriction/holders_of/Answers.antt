@@ -4,8 +4,7 @@ use Rattle.certificate.specs.View.{targets_in}
 use Rattle.certificate.specs.declared.listed.PairRow.{PairRow}
 use Rattle.number_sets.specs.Pieces.{list_at}
 use Rattle.number_sets.specs.Transposition.{copies, holders_below}
-use Rattle.number_sets.proofs.Growing.{holders_more}
-use Rattle.listed_model.proofs.Holding.{turned_rows}
+use Rattle.listed_model.proofs.Holding.{holders_more, turned_rows}
 use Rattle.listed_model.proofs.restriction.holders_of.Goals as goal
 
 pub loop-place-preserved : goal.loop-place-preserved

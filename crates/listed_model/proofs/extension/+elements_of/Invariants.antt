@@ -1,4 +1,0 @@
-use Rattle.listed_model.proofs.extension.+elements_of.Given as goal
-
-abbrev pub decreases-elements_of : goal.decreases-elements_of
-decreases-elements_of l = l.expression.0

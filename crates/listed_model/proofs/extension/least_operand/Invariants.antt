@@ -1,5 +1,0 @@
-use Rattle.std.proofs.Common.{Contains}
-use Rattle.listed_model.proofs.extension.least_operand.Given as goal
-
-abbrev pub invariant-loop-operand : goal.invariant-loop-operand
-invariant-loop-operand l = Contains l.operands l.least
