@@ -4,4 +4,6 @@ pub mod Sameness
 pub mod Facts
 pub mod Filling
 pub mod Placing
-pub mod Copies
+pub mod Zeros
+pub mod Chaining
+pub mod Tabling

@@ -4,4 +4,6 @@ pub mod StoredFacts
 pub mod Theorems
 pub mod HashInput
 pub mod Hashes
+pub mod Chains
 pub mod Slots
+pub mod Tables

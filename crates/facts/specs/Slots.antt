@@ -1,11 +1,6 @@
--- Where facts are found by their hashes: in slots, which hold one more than the place of a fact, or 0 where they are free. The facts
--- of contexts with one number share slots, since they are sought one after the other.
+-- Where facts are found by their hashes: in slots, which hold one more than the place of a fact, or 0 where they are free.
 use Rattle.std.specs.Prelude.{◌≡◌, ℕ, suc, ◌-◌, ◌%◌, ◌^◌, ◌<◌, ◌≤◌, List, length, slice_index, slice_get, Some, bit_and}
-use Rattle.axioms.specs.WellFormedness.{AreDistinct}
-use Rattle.facts.specs.declared.contexts.Context.{Context}
-use Rattle.facts.specs.declared.contexts.Context.TheVariants as contexts
 use Rattle.facts.specs.declared.contexts.Fact.{Fact}
-use Rattle.facts.specs.declared.contexts.Fact.TheVariants as facts
 use Rattle.facts.specs.Hashes.{hash_of}
 use Rattle.facts.specs.declared.seeds.Seeds.{Seeds}
 use Rattle.facts.specs.declared.slots.Found.{Found}
@@ -17,16 +12,6 @@ use Rattle.facts.specs.declared.slots.TheConstants.{FEW}
 -- the bucket of the fact, of so many
 unfoldable pub bucket_of : Seeds → ℕ → Fact → ℕ
 bucket_of seeds count fact = bit_and (hash_of seeds fact) (count - 1)
-
--- the number of the context: an expression and an individual may have the same
-abbrev pub number_of : Context → ℕ
-number_of (contexts.Expr e) = e.0
-number_of (contexts.Individual a) = a.0
-
--- the number of the context that the fact is of, an edge of its source
-abbrev pub home_of : Fact → ℕ
-home_of (facts.In c x) = number_of x
-home_of (facts.Edge x p y) = number_of x
 
 -- how many buckets slots of that size have
 abbrev pub count_of : ℕ → ℕ
@@ -114,39 +99,3 @@ HasRoom (Many size used numbers) = Unit {0}
 abbrev pub CanHold : Slots → ℕ → Type 0
 CanHold (Few numbers) slot = slot < FEW
 CanHold (Many size used numbers) slot = slot ≤ length numbers.items
-
--- the fact that is at the place is found in the slots of its home
-pub record IsFound (seeds : Seeds) (homes : List Slots) (fact : Fact) (place : ℕ) : Type 0 where
-  pub table : Slots
-  pub at : slice_get homes (home_of fact) ≡ Some table
-  pub holds : Holds seeds table fact place
-
--- the facts that are found in the slots of the first homes are found in those of the second
-abbrev pub StillFound : List Slots → List Slots → Type 0
-StillFound old new = (seeds : Seeds) (fact : Fact) (place : ℕ) → IsFound seeds old fact place → IsFound seeds new fact place
-
-abbrev pub AreFound : Seeds → List Fact → List Slots → Type 0
-AreFound seeds facts homes = (place : ℕ) (fact : Fact) → slice_get facts place ≡ Some fact → IsFound seeds homes fact place
-
-abbrev pub HaveSlots : List Slots → Type 0
-HaveSlots homes = (n : ℕ) (table : Slots) → slice_get homes n ≡ Some table → HasSlots table
-
--- the slot is free among those of that home, and can hold a number
-pub record IsFreeAt (homes : List Slots) (home slot : ℕ) : Type 0 where
-  pub table : Slots
-  pub at : slice_get homes home ≡ Some table
-  pub within : CanHold table slot
-  pub free : slice_index (numbers_of table) slot ≡ 0
-
--- the slot is the first that is free for the fact
-pub record IsFreeFor (seeds : Seeds) (homes : List Slots) (fact : Fact) (slot : ℕ) : Type 0 where
-  pub table : Slots
-  pub at : slice_get homes (home_of fact) ≡ Some table
-  pub free : IsFirstFree (numbers_of table) (bucket_of seeds (buckets_of table) fact) slot
-
--- what holds of a table
-pub record IsTable (seeds : Seeds) (facts : List Fact) (homes : List Slots) : Type 0 where
-  pub few : length facts < 2 ^ 32
-  pub distinct : AreDistinct facts
-  pub slots : HaveSlots homes
-  pub found : AreFound seeds facts homes

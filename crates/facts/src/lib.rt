@@ -3,8 +3,12 @@
 #![tactic(auto)]
 
 mod births;
+mod chained;
 mod contexts;
 mod homes;
+mod links;
+mod marks;
+mod numbers;
 mod seeds;
 mod slots;
 mod stored;

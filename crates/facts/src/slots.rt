@@ -69,7 +69,7 @@ fn bucket(seeds: &Seeds, count: usize, fact: Fact) -> usize
 
 /// Whether the fact stands at the place, which may be past the last.
 #[inline(always)]
-fn is_at(facts: &[StoredFact], place: u32, fact: Fact) -> bool
+pub(crate) fn is_at(facts: &[StoredFact], place: u32, fact: Fact) -> bool
     ensures { IsTrue result ↔ (slice_get facts.now place ≡ Some fact) }
 {
     let place = place as usize;
@@ -363,5 +363,26 @@ impl Slots {
                 occupy(numbers, slot, number)
             }
         }
+    }
+
+    /// Puts the number of the fact into the first slot that is free for it, where there is room for more, too. Fails where memory is
+    /// refused; each fact is found as before.
+    pub(crate) fn insert(
+        &mut self,
+        alloc: Global,
+        seeds: &Seeds,
+        facts: &[StoredFact],
+        fact: Fact,
+        number: u32,
+    ) -> Result<(), Memory>
+        requires slots { HasSlots self.old }
+        requires number { 0 < number }
+        ensures holds { StillHolds seeds.now facts.now self.old self.new }
+        ensures slots { HasSlots self.new }
+        ensures stands { OnOk result (Stands (numbers_of self.new) (bucket_of seeds.now (buckets_of self.new) fact) number) }
+    {
+        let slot = first_free(self.numbers(), self.bucket(seeds, fact));
+        let slot = self.make_room(alloc, seeds, facts, fact, slot)?;
+        self.put(slot, number)
     }
 }

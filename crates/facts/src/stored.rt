@@ -1,6 +1,8 @@
 //! Facts as they are kept.
 ghost use Rattle.facts.specs.StoredFacts.{context_from};
-ghost use Rattle.std.specs.Prelude.{◌≡◌, ◌↔◌, IsTrue};
+ghost use Rattle.facts.specs.declared.contexts.Context.{Context as AContext};
+ghost use Rattle.facts.specs.declared.contexts.Fact.TheVariants as facts;
+ghost use Rattle.std.specs.Prelude.{◌≡◌, ◌↔◌, IsTrue, MatchOption};
 
 use crate::contexts::{Context, Fact};
 use axioms::{ExprId, IndId};
@@ -128,6 +130,18 @@ impl StoredFact {
         } else {
             Fact::In(Class2::from_parts(self.is_partial, self.number), context)
         }
+    }
+
+    /// The context that the fact puts in the class; `None` where it puts none in it.
+    #[inline(always)]
+    pub fn context_in(&self, class: Class2) -> Option<Context>
+        ensures { MatchOption result ((context : AContext) → self.now ≡ facts.In class context → ⊥) (λ context. self.now ≡ facts.In class context) }
+    {
+        let (is_partial, number) = class.parts();
+        if self.number == number && !self.is_edge && self.is_partial == is_partial {
+            return Some(context_from(self.is_individual, self.context));
+        }
+        None
     }
 
     /// Whether it is the fact.

@@ -1,47 +1,44 @@
-//! Facts in order, each once, found by their hashes.
+//! Facts in order, each once, found by marks, by their hashes, or by a walk.
 ghost use Rattle.axioms.specs.WellFormedness.{AreDistinct};
-ghost use Rattle.std.specs.Prelude.{◌≡◌, ◌<◌, ◌^◌, ◌++◌, ◌∷◌, [], true, false, length, take, Contains, Ok, IfOk, IfSome, IsNone, OnErr, Some, slice_get};
+ghost use Rattle.std.specs.Prelude.{◌≡◌, ◌<◌, ◌^◌, ◌++◌, ◌∷◌, [], true, false, length, take, Contains, Ok, IfOk, IfSome, IsNone, OnErr, OnOk, Some, slice_get};
 
-use crate::contexts::Fact;
-use crate::homes;
+use crate::chained::ChainedFacts;
+use crate::contexts::{Context, Fact};
+use crate::homes::{Key, home_of, number_of};
+use crate::links::Links;
+use crate::marks::Marks;
 use crate::seeds::Seeds;
-use crate::slots::{Found, Slots};
 use crate::stored::StoredFact;
 use axioms::Memory;
 use std::alloc::Global;
 use std::hash::RandomState;
 use std::marker::Model;
 
-/// Facts in order, each once, fewer than 2^32, found by their hashes among those of the same context. Beside each number of a context
-/// this takes 32 bytes, in which up to seven facts are found, and 8 to 16 bytes beside a fact where there are more.
+/// A context whose fact was sought by a walk past more facts than these gets slots.
+const LONG: u32 = 24;
+
+/// Facts in order, each once, fewer than 2^32. The facts of the context that owns the table are found by marks, those of a context that
+/// was long in a search by their hashes, and others by a walk from the newest to the oldest. This takes 4 bytes beside a fact, and 8 to
+/// 16 more where its context has slots, 4 bytes beside each number of a context, and 4 beside each number of a class, or of a target.
 #[derive(Drop)]
 pub struct FactTable {
     alloc: Global,
     seeds: Seeds,
-    facts: Vec<StoredFact>,
-    // by the number of the context
-    homes: Vec<Slots>,
+    facts: ChainedFacts,
+    links: Links,
+    marks: Marks,
 }
 
 impl Model for FactTable {
-    ghost use Rattle.facts.specs.Slots.{IsTable};
+    ghost use Rattle.facts.specs.Tables.{IsTable};
     ghost use Rattle.facts.specs.declared.contexts.Fact.{Fact};
     ghost use Rattle.std.specs.Prelude.{List};
 
     ghost Value = { List Fact };
 
-    ghost view = { λ t. t.facts.items };
+    ghost view = { λ t. t.facts.facts };
 
-    ghost invariant = { λ t. IsTable t.seeds t.facts.items t.homes.items };
-}
-
-/// The same facts, with room for as many more.
-fn copied(alloc: Global, facts: &Vec<StoredFact>) -> Result<Vec<StoredFact>, Memory>
-    ensures { IfOk result (λ copy. copy.items ≡ facts.now.items) }
-{
-    let mut copy = Vec::with_capacity(alloc, facts.capacity())?;
-    copy.extend_with_clones(facts)?;
-    Ok(copy)
+    ghost invariant = { λ t. IsTable t.seeds t.facts t.links t.marks };
 }
 
 impl FactTable {
@@ -52,8 +49,9 @@ impl FactTable {
         FactTable {
             alloc,
             seeds: Seeds::new(&state),
-            facts: Vec::new(alloc),
-            homes: Vec::new(alloc),
+            facts: ChainedFacts::new(alloc, Key::Home),
+            links: Links::new(alloc),
+            marks: Marks::new(alloc),
         }
     }
 
@@ -65,13 +63,14 @@ impl FactTable {
     pub fn copy(&self) -> Result<FactTable, Memory>
         ensures { IfOk result (λ t. t ≡ self.now) }
     {
-        let facts = copied(self.alloc, &self.facts)?;
-        let homes = homes::copy(self.alloc, &self.homes)?;
+        let facts = self.facts.copy()?;
+        let links = self.links.copy()?;
         Ok(FactTable {
             alloc: self.alloc,
             seeds: self.seeds,
             facts,
-            homes,
+            links,
+            marks: Marks::new(self.alloc),
         })
     }
 
@@ -97,17 +96,77 @@ impl FactTable {
         ensures there { IfSome result (λ place. slice_get self.now place ≡ Some fact) }
         ensures none { IsNone result → Contains self.now fact → ⊥ }
     {
-        homes::find(&self.seeds, &self.facts, &self.homes, fact)
+        let home = home_of(fact);
+        if self.marks.owns(home) {
+            return self.marks.find(fact);
+        }
+        let number = self.links.of(home);
+        if number != 0 {
+            let facts = self.facts.as_slice();
+            return self.links.find(&self.seeds, facts, fact, number);
+        }
+        self.facts.walk(fact).place
     }
 
-    /// Makes room for so many facts more, and for the slots of so many contexts. Fails where memory is refused; the facts are what they
-    /// were.
+    /// Makes slots of the facts of the home, if memory is to be had.
+    fn link(&mut self, home: usize)
+        ensures { self.new ≡ self.old }
+    {
+        if self
+            .links
+            .link(self.alloc, &self.seeds, &self.facts, home)
+            .is_err()
+        {
+            return;
+        }
+    }
+
+    /// The place of the fact, if it is there. Where many of its context are passed, its context gets slots, if memory is to be had.
+    pub fn seek(&mut self, fact: Fact) -> Option<u32>
+        ensures same { self.new ≡ self.old }
+        ensures there { IfSome result (λ place. slice_get self.old place ≡ Some fact) }
+        ensures none { IsNone result → Contains self.old fact → ⊥ }
+    {
+        let home = home_of(fact);
+        if self.marks.owns(home) || self.links.of(home) != 0 {
+            return self.find(fact);
+        }
+        let walk = self.facts.walk(fact);
+        if LONG < walk.steps {
+            self.link(home);
+        }
+        walk.place
+    }
+
+    /// Makes room for so many facts more, and for so many contexts. Fails where memory is refused; the facts are what they were.
     pub fn reserve(&mut self, facts: usize, contexts: usize) -> Result<(), Memory>
         ensures { self.new ≡ self.old }
     {
-        self.facts.reserve(facts)?;
-        self.homes
-            .reserve(contexts.saturating_sub(self.homes.len()))?;
+        self.facts.reserve(facts, contexts)?;
+        Ok(())
+    }
+
+    /// Finds the facts of the context by marks from now on, until another is to own them. Where memory is refused none does, and facts
+    /// are found all the same.
+    pub fn own(&mut self, context: Context)
+        ensures { self.new ≡ self.old }
+    {
+        self.marks.own(&self.facts, number_of(context));
+    }
+
+    /// Adds a fact that is not there at the end. Fails where memory is refused; then the facts are what they were.
+    #[inline(always)]
+    fn append(&mut self, fact: Fact) -> Result<(), Memory>
+        requires few { length self.old < u32.MAX }
+        requires new { Contains self.old fact → ⊥ }
+        ensures added { OnOk result (self.new ≡ self.old ++ fact ∷ []) }
+        ensures err { OnErr result (self.new ≡ self.old) }
+    {
+        self.links
+            .add(self.alloc, &self.seeds, self.facts.as_slice(), fact)?;
+        let place = self.facts.len() as u32;
+        self.facts.push(fact)?;
+        self.marks.add(fact, place);
         Ok(())
     }
 
@@ -119,23 +178,10 @@ impl FactTable {
         ensures no { result ≡ Ok false → Contains self.old fact × (self.new ≡ self.old) }
         ensures err { OnErr result (self.new ≡ self.old) }
     {
-        let home = homes::home_of(fact);
-        homes::extend(&mut self.homes, home)?;
-        let Found::Free(slot) = homes::search(&self.seeds, &self.facts, &self.homes, home, fact)
-        else {
+        if self.seek(fact).is_some() {
             return Ok(false);
-        };
-        let slot = homes::make_room(
-            self.alloc,
-            &self.seeds,
-            &self.facts,
-            &mut self.homes,
-            fact,
-            slot,
-        )?;
-        self.facts.reserve(1)?;
-        homes::put(&mut self.homes, home, slot, self.facts.len() as u32 + 1)?;
-        self.facts.push_reserved(StoredFact::new(fact));
+        }
+        self.append(fact)?;
         Ok(true)
     }
 
@@ -143,6 +189,7 @@ impl FactTable {
     pub fn truncate(&mut self, len: usize)
         ensures { self.new ≡ take len self.old }
     {
+        self.marks.clear();
         self.facts.truncate(len);
     }
 
@@ -150,6 +197,6 @@ impl FactTable {
     pub fn into_list(self) -> Vec<StoredFact>
         ensures { result.items ≡ self }
     {
-        self.facts
+        self.facts.into_list()
     }
 }

@@ -12,3 +12,4 @@ pub mod Partings
 pub mod Differences
 pub mod Flags
 pub mod Led
+pub mod Premises

@@ -9,10 +9,12 @@ ghost use Rattle.indexes.specs.Apart.{AreApart, HasClass, IsApart};
 ghost use Rattle.inference.specs.Derivations.{IsDerived};
 ghost use Rattle.inference.specs.Draws.{Draws};
 ghost use Rattle.inference.specs.Visits.{AreWithin};
+ghost use Rattle.inference.specs.Premises.{class_fact};
 ghost use Rattle.inference.specs.Partings.{AreApartMet, IsApartIn, IsPartingDrawn, NoneIsApart};
 
 use crate::conclusions::NOTHING;
 use crate::known_facts::{KnownFacts, Stop};
+use crate::premises::{ClassPremise, Premise};
 use crate::rules::Rules;
 use facts::{Context, Fact};
 use indexes::{Apart, Beside, Operand};
@@ -99,24 +101,23 @@ impl Rules<'_> {
     pub(crate) fn draw_disjoint(
         &self,
         facts: &mut KnownFacts,
-        m: u32,
-        f: Fact,
-        n: u32,
-        g: Fact,
+        first: Premise,
+        second: Premise,
     ) -> Result<(), Stop>
         requires derived { IsDerived self.now.problem.now facts.old }
-        requires first { slice_get facts.old.facts m ≡ Some f }
-        requires second { slice_get facts.old.facts n ≡ Some g }
-        ensures { Draws self.now facts.old facts.new result (IsPartingDrawn self.now.problem.now f g facts.new.facts) }
+        requires first { slice_get facts.old.facts first.number ≡ Some first.fact }
+        requires second { slice_get facts.old.facts second.number ≡ Some second.fact }
+        ensures { Draws self.now facts.old facts.new result (IsPartingDrawn self.now.problem.now first.fact second.fact facts.new.facts) }
     {
-        let (Fact::In(a, x), Fact::In(b, y)) = (f, g) else {
+        let (Fact::In(a, x), Fact::In(b, y)) = (first.fact, second.fact) else {
             return Ok(());
         };
         if x != y {
             return Ok(());
         }
         if let Some(list) = self.problem.disjoint_list(a, b) {
-            self.add(facts, Fact::In(NOTHING, x), 14, &[m, n], Some(list))?;
+            let older = [first.number, second.number];
+            self.add(facts, Fact::In(NOTHING, x), 14, &older, Some(list))?;
         }
         Ok(())
     }
@@ -125,20 +126,24 @@ impl Rules<'_> {
     fn draw_apart(
         &self,
         facts: &mut KnownFacts,
-        hand: u32,
-        class: Class2,
-        context: Context,
+        hand: ClassPremise,
         number: u32,
     ) -> Result<(), Stop>
         requires derived { IsDerived self.now.problem.now facts.old }
-        requires hand { slice_get facts.old.facts hand ≡ Some (In class context) }
-        requires other { (b : Class3) × AreApart self.now.problem.now class b × (slice_get facts.old.facts number ≡ Some (In b context)) }
-        ensures { Draws self.now facts.old facts.new result (Contains facts.new.facts (In nothing context)) }
+        requires hand { slice_get facts.old.facts hand.number ≡ Some (class_fact hand) }
+        requires other { (b : Class3) × AreApart self.now.problem.now hand.class b × (slice_get facts.old.facts number ≡ Some (In b hand.context)) }
+        ensures { Draws self.now facts.old facts.new result (Contains facts.new.facts (In nothing hand.context)) }
     {
-        let fact = Fact::In(class, context);
-        let other = facts.get(number);
-        self.draw_pair(facts, hand, fact, number, other)?;
-        self.draw_pair(facts, number, other, hand, fact)?;
+        let hand = Premise {
+            number: hand.number,
+            fact: Fact::In(hand.class, hand.context),
+        };
+        let other = Premise {
+            number,
+            fact: facts.get(number),
+        };
+        self.draw_pair(facts, hand, other)?;
+        self.draw_pair(facts, other, hand)?;
         Ok(())
     }
 
@@ -147,23 +152,21 @@ impl Rules<'_> {
     pub(crate) fn meet_apart(
         &self,
         facts: &mut KnownFacts,
-        hand: u32,
-        class: Class2,
-        context: Context,
+        hand: ClassPremise,
         apart: &Apart<'_>,
         numbers: &[u32],
     ) -> Result<(), Stop>
         requires derived { IsDerived self.now.problem.now facts.old }
-        requires hand { slice_get facts.old.facts hand ≡ Some (In class context) }
-        requires apart { (b : Class3) → IsApart apart.now b → AreApart self.now.problem.now class b }
+        requires hand { slice_get facts.old.facts hand.number ≡ Some (class_fact hand) }
+        requires apart { (b : Class3) → IsApart apart.now b → AreApart self.now.problem.now hand.class b }
         requires numbers { AreWithin facts.old.facts numbers.now }
-        ensures { Draws self.now facts.old facts.new result (AreApartMet apart.now context facts.old.facts numbers.now facts.new.facts) }
+        ensures { Draws self.now facts.old facts.new result (AreApartMet apart.now hand.context facts.old.facts numbers.now facts.new.facts) }
     {
-        if apart.is_empty() || facts.find(Fact::In(NOTHING, context)).is_some() {
+        if apart.is_empty() || facts.find(Fact::In(NOTHING, hand.context)).is_some() {
             return Ok(());
         }
-        if let Some(number) = find_apart(facts, apart, context, numbers) {
-            self.draw_apart(facts, hand, class, context, number)?;
+        if let Some(number) = find_apart(facts, apart, hand.context, numbers) {
+            self.draw_apart(facts, hand, number)?;
         }
         Ok(())
     }

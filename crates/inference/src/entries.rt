@@ -8,9 +8,11 @@ ghost use Rattle.facts.specs.declared.contexts.Fact.TheVariants.{In};
 ghost use Rattle.inference.specs.Completeness.{AllDrawn, AreLoopsDrawn, HasEntry, IsContextAt, IsEntry, IsInItself};
 ghost use Rattle.inference.specs.Derivations.{IsDerived};
 ghost use Rattle.inference.specs.Draws.{Draws};
+ghost use Rattle.inference.specs.Premises.{class_fact};
 
 use crate::conclusions::THING;
 use crate::known_facts::{KnownFacts, Stop};
+use crate::premises::ClassPremise;
 use crate::rules::Rules;
 use crate::visits::has_any;
 use facts::{Context, Fact, FactId, Older};
@@ -95,22 +97,20 @@ impl Rules<'_> {
     pub(crate) fn draw_owed_loops(
         &self,
         facts: &mut KnownFacts,
-        hand: u32,
-        class: Class2,
-        context: Context,
+        hand: ClassPremise,
     ) -> Result<(), Stop>
         requires derived { IsDerived self.now.problem.now facts.old }
-        requires hand { slice_get facts.old.facts hand ≡ Some (In class context) }
-        ensures { Draws self.now facts.old facts.new result ((x : Context2) → IsEntry facts.old x hand → AllDrawn (IsLoop x) self.now.problem.now.forms facts.new.facts) }
+        requires hand { slice_get facts.old.facts hand.number ≡ Some (class_fact hand) }
+        ensures { Draws self.now facts.old facts.new result ((x : Context2) → IsEntry facts.old x hand.number → AllDrawn (IsLoop x) self.now.problem.now.forms facts.new.facts) }
     {
-        if !is_thing(class) {
+        if !is_thing(hand.class) {
             return Ok(());
         }
-        if !is_entry(facts, hand) {
+        if !is_entry(facts, hand.number) {
             return Ok(());
         }
-        let older = facts.birth(hand).older();
-        self.draw_loops_by(facts, context, older)?;
+        let older = facts.birth(hand.number).older();
+        self.draw_loops_by(facts, hand.context, older)?;
         Ok(())
     }
 }

@@ -197,6 +197,22 @@ impl KnownFacts {
         self.facts.find(fact)
     }
 
+    /// The number of the fact, if it is there. Where it is sought past many of its context, they are found faster from now on.
+    pub(crate) fn seek(&mut self, fact: Fact) -> Option<u32>
+        ensures same { self.new ≡ self.old }
+        ensures there { IfSome result (λ number. slice_get self.old.facts number ≡ Some fact) }
+        ensures none { IsNone result → Contains self.old.facts fact → ⊥ }
+    {
+        self.facts.seek(fact)
+    }
+
+    /// Finds the facts of the context fastest from now on, until another is to own them.
+    pub(crate) fn own(&mut self, context: Context)
+        ensures { self.new ≡ self.old }
+    {
+        self.facts.own(context);
+    }
+
     /// Adds a fact with what gave it, unless it is there, and tells whether it was new.
     pub(crate) fn put(&mut self, fact: Fact, birth: Birth) -> Result<bool, Memory>
         requires { length self.old.facts < u32.MAX }

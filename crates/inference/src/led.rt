@@ -16,6 +16,7 @@ ghost use Rattle.inference.specs.Led.{AreLed, AreLedDrawn, IsLed, IsLedAt, IsLed
 ghost use Rattle.inference.specs.PropertyClosures.{IsClosureOf};
 
 use crate::known_facts::{KnownFacts, Stop};
+use crate::premises::Premises;
 use crate::properties::is_below;
 use crate::rules::Rules;
 use facts::{Context, Fact};
@@ -130,24 +131,23 @@ pub(crate) fn class_alone(older: &[Fact]) -> Option<Class2>
 }
 
 impl Rules<'_> {
-    /// Adds what the form gives from the facts, for which it is listed and whose numbers are given too.
+    /// Adds what the form gives from the facts, for which it is listed.
     #[inline(always)]
     fn draw_led(
         &self,
         facts: &mut KnownFacts,
         listed: ListedForm,
-        numbers: &[u32],
-        older: &[Fact],
+        older: Premises<'_>,
     ) -> Result<(), Stop>
         requires derived { IsDerived self.now.problem.now facts.old }
-        requires older { AreAt facts.old.facts numbers.now older.now }
+        requires older { AreAt facts.old.facts older.numbers.now older.facts.now }
         requires says { SaysItsForm self.now.problem.now.forms listed }
-        requires led { IsLedAt self.now.problem.now.forms older.now listed }
-        ensures { Draws self.now facts.old facts.new result (IsDrawnFrom self.now.problem.now older.now facts.new.facts listed.number) }
+        requires led { IsLedAt self.now.problem.now.forms older.facts.now listed }
+        ensures { Draws self.now facts.old facts.new result (IsDrawnFrom self.now.problem.now older.entry.facts.now facts.new.facts listed.number) }
     {
-        if let Some(fact) = from_led(self.closure, listed, older) {
-            let condition = condition_of_led(listed, older);
-            self.add(facts, fact, condition, numbers, Some(listed.number))?;
+        if let Some(fact) = from_led(self.closure, listed, older.facts) {
+            let condition = condition_of_led(listed, older.facts);
+            self.add(facts, fact, condition, older.numbers, Some(listed.number))?;
         }
         Ok(())
     }
@@ -158,17 +158,16 @@ impl Rules<'_> {
         &self,
         facts: &mut KnownFacts,
         listed: &[ListedForm],
-        numbers: &[u32],
-        older: &[Fact],
+        older: Premises<'_>,
     ) -> Result<(), Stop>
         requires derived { IsDerived self.now.problem.now facts.old }
-        requires older { AreAt facts.old.facts numbers.now older.now }
+        requires older { AreAt facts.old.facts older.numbers.now older.facts.now }
         requires say { SayTheirForms self.now.problem.now.forms listed.now }
-        requires led { AreLed self.now.problem.now.forms older.now listed.now }
-        ensures { Draws self.now facts.old facts.new result (AreLedDrawn self.now.problem.now older.now facts.new.facts listed.now) }
+        requires led { AreLed self.now.problem.now.forms older.facts.now listed.now }
+        ensures { Draws self.now facts.old facts.new result (AreLedDrawn self.now.problem.now older.entry.facts.now facts.new.facts listed.now) }
     {
         for form in listed {
-            self.draw_led(facts, *form, numbers, older)?;
+            self.draw_led(facts, *form, older)?;
         }
         Ok(())
     }

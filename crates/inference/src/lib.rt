@@ -11,6 +11,7 @@ mod joins;
 mod known_facts;
 mod led;
 mod pairing;
+mod premises;
 mod properties;
 mod rules;
 mod sameness;
@@ -19,6 +20,7 @@ mod visits;
 
 pub use joins::Joins;
 pub use known_facts::{KnownFacts, Stop};
+pub use premises::Premise;
 pub use rules::Rules;
 pub use second_premises::is_second_premise;
 pub use visits::is_filler;

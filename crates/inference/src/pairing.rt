@@ -2,20 +2,29 @@
 ghost use Rattle.std.specs.Prelude.{◌≡◌, ◌<◌, [], ◌∷◌, ℕ, false, Some, length, slice_get};
 ghost use Rattle.facts.specs.Closure.{AreDisjointAt};
 ghost use Rattle.facts.specs.declared.contexts.Fact.{Fact as Fact2};
-ghost use Rattle.facts.specs.declared.contexts.Fact.TheVariants.{In};
 ghost use Rattle.inference.specs.Derivations.{IsDerived};
 ghost use Rattle.inference.specs.Draws.{Draws};
 ghost use Rattle.inference.specs.Completeness.{IsRedundantAsSecond, Drawn, IsDrawnIn, AreDrawnIn, MeetsOperands, MeetEachOther, AreMet, AreMetBefore, AreMetBehind};
-ghost use Rattle.inference.specs.Visits.{AreAll, AreWithin, GiveNothing, IsBy, IsClassFact, IsEdge, IsOfClasses};
+ghost use Rattle.inference.specs.Visits.{AreAll, AreWithin, GiveNothing, IsClassFact, IsEdge, IsOfClasses};
+ghost use Rattle.inference.specs.Premises.{class_fact, edge_fact};
 ghost use Rattle.inference.specs.Marks.{HasAboveOf, HasEndsOf, HasFilledOf, HasSecondsOf};
 ghost use Rattle.inference.specs.Meetings.{IsWithin, AllListedAreMet, HasServed};
 
 use crate::known_facts::{KnownFacts, Stop};
+use crate::premises::{ClassPremise, EdgePremise, Premise, Premises};
 use crate::rules::Rules;
 use crate::visits::{begins_chain, is_carried, operands_of};
 use facts::{Context, Fact};
 use indexes::Index;
 use normal_forms::{Class2, PropId2};
+
+/// The context that the fact is of, an edge's source.
+fn source_of(fact: Fact) -> Context {
+    match fact {
+        Fact::In(_, context) => context,
+        Fact::Edge(source, _, _) => source,
+    }
+}
 
 impl Rules<'_> {
     /// Whether an intersection begins with the first of two classes, and one ends with the second.
@@ -46,14 +55,18 @@ impl Rules<'_> {
     }
 
     /// Adds what two facts give in this order.
-    fn draw_two(&self, facts: &mut KnownFacts, m: u32, f: Fact, n: u32, g: Fact) -> Result<(), Stop>
+    fn draw_two(&self, facts: &mut KnownFacts, first: Premise, second: Premise) -> Result<(), Stop>
         requires derived { IsDerived self.now.problem.now facts.old }
-        requires first { slice_get facts.old.facts m ≡ Some f }
-        requires second { slice_get facts.old.facts n ≡ Some g }
-        ensures { Draws self.now facts.old facts.new result (Drawn self.now.problem.now (f ∷ g ∷ []) facts.new.facts) }
+        requires first { slice_get facts.old.facts first.number ≡ Some first.fact }
+        requires second { slice_get facts.old.facts second.number ≡ Some second.fact }
+        ensures { Draws self.now facts.old facts.new result (Drawn self.now.problem.now (first.fact ∷ second.fact ∷ []) facts.new.facts) }
     {
-        self.draw(facts, &[m, n], &[f, g])?;
-        self.draw_disjoint(facts, m, f, n, g)?;
+        let both = Premises {
+            numbers: &[first.number, second.number],
+            facts: &[first.fact, second.fact],
+        };
+        self.draw(facts, both)?;
+        self.draw_disjoint(facts, first, second)?;
         Ok(())
     }
 
@@ -61,18 +74,16 @@ impl Rules<'_> {
     pub(crate) fn draw_pair(
         &self,
         facts: &mut KnownFacts,
-        m: u32,
-        f: Fact,
-        n: u32,
-        g: Fact,
+        first: Premise,
+        second: Premise,
     ) -> Result<(), Stop>
         requires derived { IsDerived self.now.problem.now facts.old }
-        requires first { slice_get facts.old.facts m ≡ Some f }
-        requires second { slice_get facts.old.facts n ≡ Some g }
-        ensures { Draws self.now facts.old facts.new result (Drawn self.now.problem.now (f ∷ g ∷ []) facts.new.facts) }
+        requires first { slice_get facts.old.facts first.number ≡ Some first.fact }
+        requires second { slice_get facts.old.facts second.number ≡ Some second.fact }
+        ensures { Draws self.now facts.old facts.new result (Drawn self.now.problem.now (first.fact ∷ second.fact ∷ []) facts.new.facts) }
     {
-        if self.may_give(f, g) {
-            self.draw_two(facts, m, f, n, g)?;
+        if self.may_give(first.fact, second.fact) {
+            self.draw_two(facts, first, second)?;
         }
         Ok(())
     }
@@ -81,55 +92,54 @@ impl Rules<'_> {
     fn draw_edges(
         &self,
         facts: &mut KnownFacts,
-        m: u32,
-        f: Fact,
-        n: u32,
-        g: Fact,
+        first: Premise,
+        second: Premise,
     ) -> Result<(), Stop>
         requires derived { IsDerived self.now.problem.now facts.old }
-        requires first { slice_get facts.old.facts m ≡ Some f }
-        requires second { slice_get facts.old.facts n ≡ Some g }
-        requires edge { IsEdge f }
-        requires other { IsEdge g }
-        ensures { Draws self.now facts.old facts.new result (Drawn self.now.problem.now (f ∷ g ∷ []) facts.new.facts) }
+        requires first { slice_get facts.old.facts first.number ≡ Some first.fact }
+        requires second { slice_get facts.old.facts second.number ≡ Some second.fact }
+        requires edge { IsEdge first.fact }
+        requires other { IsEdge second.fact }
+        ensures { Draws self.now facts.old facts.new result (Drawn self.now.problem.now (first.fact ∷ second.fact ∷ []) facts.new.facts) }
     {
-        if let (Fact::Edge(_, first, _), Fact::Edge(_, second, _)) = (f, g) {
-            self.draw_chains(facts, first, second, &[m, n], &[f, g])?;
+        if let (Fact::Edge(_, before, _), Fact::Edge(_, behind, _)) = (first.fact, second.fact) {
+            let both = Premises {
+                numbers: &[first.number, second.number],
+                facts: &[first.fact, second.fact],
+            };
+            self.draw_chains(facts, before, behind, both)?;
         }
         Ok(())
     }
 
     /// Adds what two facts give, whichever is first. With itself a fact has one order.
-    fn meet(&self, facts: &mut KnownFacts, m: u32, f: Fact, n: u32, g: Fact) -> Result<(), Stop>
+    fn meet(&self, facts: &mut KnownFacts, first: Premise, second: Premise) -> Result<(), Stop>
         requires derived { IsDerived self.now.problem.now facts.old }
-        requires first { slice_get facts.old.facts m ≡ Some f }
-        requires second { slice_get facts.old.facts n ≡ Some g }
-        ensures { Draws self.now facts.old facts.new result (MeetEachOther self.now.problem.now f g facts.new) }
+        requires first { slice_get facts.old.facts first.number ≡ Some first.fact }
+        requires second { slice_get facts.old.facts second.number ≡ Some second.fact }
+        ensures { Draws self.now facts.old facts.new result (MeetEachOther self.now.problem.now first.fact second.fact facts.new) }
     {
-        self.draw_pair(facts, m, f, n, g)?;
-        if m == n {
+        self.draw_pair(facts, first, second)?;
+        if first.number == second.number {
             return Ok(());
         }
-        self.draw_pair(facts, n, g, m, f)?;
+        self.draw_pair(facts, second, first)?;
         Ok(())
     }
 
     /// Adds what the fact of that number gives with those of the other numbers.
-    fn meet_all(
-        &self,
-        facts: &mut KnownFacts,
-        hand: u32,
-        fact: Fact,
-        numbers: &[u32],
-    ) -> Result<(), Stop>
+    fn meet_all(&self, facts: &mut KnownFacts, hand: Premise, numbers: &[u32]) -> Result<(), Stop>
         requires derived { IsDerived self.now.problem.now facts.old }
-        requires hand { slice_get facts.old.facts hand ≡ Some fact }
+        requires hand { slice_get facts.old.facts hand.number ≡ Some hand.fact }
         requires numbers { AreWithin facts.old.facts numbers.now }
-        ensures { Draws self.now facts.old facts.new result (AreMet self.now.problem.now fact facts.old.facts numbers.now facts.new) }
+        ensures { Draws self.now facts.old facts.new result (AreMet self.now.problem.now hand.fact facts.old.facts numbers.now facts.new) }
     {
         for number in numbers {
-            let partner = facts.get(*number);
-            self.meet(facts, hand, fact, *number, partner)?;
+            let partner = Premise {
+                number: *number,
+                fact: facts.get(*number),
+            };
+            self.meet(facts, hand, partner)?;
         }
         Ok(())
     }
@@ -153,8 +163,11 @@ impl Rules<'_> {
         let Some(before) = facts.find(Fact::In(first, context)) else {
             return Ok(());
         };
-        let older = [Fact::In(first, context), Fact::In(second, context)];
-        self.draw_form(facts, number, &[before, place], &older)
+        let both = Premises {
+            numbers: &[before, place],
+            facts: &[Fact::In(first, context), Fact::In(second, context)],
+        };
+        self.draw_form(facts, number, both)
     }
 
     /// Adds what the listed intersections give from classes in the context.
@@ -194,22 +207,26 @@ impl Rules<'_> {
     fn meet_classes(
         &self,
         facts: &mut KnownFacts,
-        hand: u32,
-        class: Class2,
-        context: Context,
+        hand: ClassPremise,
         numbers: &[u32],
     ) -> Result<(), Stop>
         requires derived { IsDerived self.now.problem.now facts.old }
-        requires hand { slice_get facts.old.facts hand ≡ Some (In class context) }
+        requires hand { slice_get facts.old.facts hand.number ≡ Some (class_fact hand) }
         requires numbers { AreAll IsClassFact facts.old.facts numbers.now }
-        ensures { Draws self.now facts.old facts.new result (AreMet self.now.problem.now (In class context) facts.old.facts numbers.now facts.new) }
+        ensures { Draws self.now facts.old facts.new result (AreMet self.now.problem.now (class_fact hand) facts.old.facts numbers.now facts.new) }
     {
-        match self.problem.few_intersections(class, numbers.len()) {
+        match self.problem.few_intersections(hand.class, numbers.len()) {
             Some(few) => {
-                self.meet_operands(facts, few.first, few.second, context)?;
-                self.meet_apart(facts, hand, class, context, &few.apart, numbers)?;
+                self.meet_operands(facts, few.first, few.second, hand.context)?;
+                self.meet_apart(facts, hand, &few.apart, numbers)?;
             }
-            None => self.meet_all(facts, hand, Fact::In(class, context), numbers)?,
+            None => {
+                let hand = Premise {
+                    number: hand.number,
+                    fact: Fact::In(hand.class, hand.context),
+                };
+                self.meet_all(facts, hand, numbers)?;
+            }
         }
         Ok(())
     }
@@ -251,21 +268,23 @@ impl Rules<'_> {
     pub(crate) fn meet_before(
         &self,
         facts: &mut KnownFacts,
-        hand: u32,
-        edge: Fact,
+        hand: Premise,
         above: u64,
         numbers: &[u32],
     ) -> Result<(), Stop>
         requires derived { IsDerived self.now.problem.now facts.old }
-        requires hand { slice_get facts.old.facts hand ≡ Some edge }
-        requires above { HasAboveOf self.now.problem.now.forms above edge }
+        requires hand { slice_get facts.old.facts hand.number ≡ Some hand.fact }
+        requires above { HasAboveOf self.now.problem.now.forms above hand.fact }
         requires numbers { AreWithin facts.old.facts numbers.now }
-        ensures { Draws self.now facts.old facts.new result (AreMetBefore self.now.problem.now edge facts.old.facts numbers.now facts.new) }
+        ensures { Draws self.now facts.old facts.new result (AreMetBefore self.now.problem.now hand.fact facts.old.facts numbers.now facts.new) }
     {
         for number in numbers {
-            let partner = facts.get(*number);
-            if self.may_fill(above, partner) {
-                self.draw_two(facts, hand, edge, *number, partner)?;
+            let partner = Premise {
+                number: *number,
+                fact: facts.get(*number),
+            };
+            if self.may_fill(above, partner.fact) {
+                self.draw_two(facts, hand, partner)?;
             }
         }
         Ok(())
@@ -276,43 +295,42 @@ impl Rules<'_> {
     fn meet_behind(
         &self,
         facts: &mut KnownFacts,
-        hand: u32,
-        fact: Fact,
+        hand: Premise,
         filled: u64,
         numbers: &[u32],
     ) -> Result<(), Stop>
         requires derived { IsDerived self.now.problem.now facts.old }
-        requires hand { slice_get facts.old.facts hand ≡ Some fact }
-        requires filled { HasFilledOf self.now.problem.now.forms filled fact }
+        requires hand { slice_get facts.old.facts hand.number ≡ Some hand.fact }
+        requires filled { HasFilledOf self.now.problem.now.forms filled hand.fact }
         requires numbers { AreWithin facts.old.facts numbers.now }
-        ensures { Draws self.now facts.old facts.new result (AreMetBehind self.now.problem.now fact facts.old.facts numbers.now facts.new) }
+        ensures { Draws self.now facts.old facts.new result (AreMetBehind self.now.problem.now hand.fact facts.old.facts numbers.now facts.new) }
     {
         for number in numbers {
             if self.may_carry(facts, filled, *number) {
-                let partner = facts.get(*number);
-                self.draw_two(facts, *number, partner, hand, fact)?;
+                let partner = Premise {
+                    number: *number,
+                    fact: facts.get(*number),
+                };
+                self.draw_two(facts, partner, hand)?;
             }
         }
         Ok(())
     }
 
     /// Adds what the class in a context gives with the edges into it, which have those numbers.
-    fn carry(
-        &self,
-        facts: &mut KnownFacts,
-        hand: u32,
-        class: Class2,
-        context: Context,
-        numbers: &[u32],
-    ) -> Result<(), Stop>
+    fn carry(&self, facts: &mut KnownFacts, hand: ClassPremise, numbers: &[u32]) -> Result<(), Stop>
         requires derived { IsDerived self.now.problem.now facts.old }
-        requires hand { slice_get facts.old.facts hand ≡ Some (In class context) }
+        requires hand { slice_get facts.old.facts hand.number ≡ Some (class_fact hand) }
         requires numbers { AreAll IsEdge facts.old.facts numbers.now }
-        ensures { Draws self.now facts.old facts.new result (AreMetBehind self.now.problem.now (In class context) facts.old.facts numbers.now facts.new) }
+        ensures { Draws self.now facts.old facts.new result (AreMetBehind self.now.problem.now (class_fact hand) facts.old.facts numbers.now facts.new) }
     {
-        if is_carried(self.problem, class) {
-            let filled = self.joins.filled(class);
-            self.meet_behind(facts, hand, Fact::In(class, context), filled, numbers)?;
+        if is_carried(self.problem, hand.class) {
+            let filled = self.joins.filled(hand.class);
+            let hand = Premise {
+                number: hand.number,
+                fact: Fact::In(hand.class, hand.context),
+            };
+            self.meet_behind(facts, hand, filled, numbers)?;
         }
         Ok(())
     }
@@ -341,21 +359,23 @@ impl Rules<'_> {
     fn join_before(
         &self,
         facts: &mut KnownFacts,
-        hand: u32,
-        edge: Fact,
+        hand: Premise,
         seconds: u64,
         numbers: &[u32],
     ) -> Result<(), Stop>
         requires derived { IsDerived self.now.problem.now facts.old }
-        requires hand { slice_get facts.old.facts hand ≡ Some edge }
-        requires seconds { HasSecondsOf self.now.problem.now.forms seconds edge }
+        requires hand { slice_get facts.old.facts hand.number ≡ Some hand.fact }
+        requires seconds { HasSecondsOf self.now.problem.now.forms seconds hand.fact }
         requires numbers { AreAll IsEdge facts.old.facts numbers.now }
-        ensures { Draws self.now facts.old facts.new result (AreMetBefore self.now.problem.now edge facts.old.facts numbers.now facts.new) }
+        ensures { Draws self.now facts.old facts.new result (AreMetBefore self.now.problem.now hand.fact facts.old.facts numbers.now facts.new) }
     {
         for number in numbers {
             if self.may_follow(facts, seconds, *number) {
-                let partner = facts.get(*number);
-                self.draw_edges(facts, hand, edge, *number, partner)?;
+                let partner = Premise {
+                    number: *number,
+                    fact: facts.get(*number),
+                };
+                self.draw_edges(facts, hand, partner)?;
             }
         }
         Ok(())
@@ -365,21 +385,23 @@ impl Rules<'_> {
     fn join_behind(
         &self,
         facts: &mut KnownFacts,
-        hand: u32,
-        edge: Fact,
+        hand: Premise,
         ends: u64,
         numbers: &[u32],
     ) -> Result<(), Stop>
         requires derived { IsDerived self.now.problem.now facts.old }
-        requires hand { slice_get facts.old.facts hand ≡ Some edge }
-        requires ends { HasEndsOf self.now.problem.now.forms ends edge }
+        requires hand { slice_get facts.old.facts hand.number ≡ Some hand.fact }
+        requires ends { HasEndsOf self.now.problem.now.forms ends hand.fact }
         requires numbers { AreAll IsEdge facts.old.facts numbers.now }
-        ensures { Draws self.now facts.old facts.new result (AreMetBehind self.now.problem.now edge facts.old.facts numbers.now facts.new) }
+        ensures { Draws self.now facts.old facts.new result (AreMetBehind self.now.problem.now hand.fact facts.old.facts numbers.now facts.new) }
     {
         for number in numbers {
             if self.may_lead(facts, ends, *number) {
-                let partner = facts.get(*number);
-                self.draw_edges(facts, *number, partner, hand, edge)?;
+                let partner = Premise {
+                    number: *number,
+                    fact: facts.get(*number),
+                };
+                self.draw_edges(facts, partner, hand)?;
             }
         }
         Ok(())
@@ -389,20 +411,21 @@ impl Rules<'_> {
     fn lead_on(
         &self,
         facts: &mut KnownFacts,
-        hand: u32,
-        edge: Fact,
-        property: PropId2,
+        hand: EdgePremise,
         numbers: &[u32],
     ) -> Result<(), Stop>
         requires derived { IsDerived self.now.problem.now facts.old }
-        requires hand { slice_get facts.old.facts hand ≡ Some edge }
-        requires property { IsBy property edge }
+        requires hand { slice_get facts.old.facts hand.number ≡ Some (edge_fact hand) }
         requires numbers { AreAll IsEdge facts.old.facts numbers.now }
-        ensures { Draws self.now facts.old facts.new result (AreMetBefore self.now.problem.now edge facts.old.facts numbers.now facts.new) }
+        ensures { Draws self.now facts.old facts.new result (AreMetBefore self.now.problem.now (edge_fact hand) facts.old.facts numbers.now facts.new) }
     {
-        if begins_chain(self.problem, self.closure, property) {
-            let seconds = self.joins.seconds(property);
-            self.join_before(facts, hand, edge, seconds, numbers)?;
+        if begins_chain(self.problem, self.closure, hand.property) {
+            let seconds = self.joins.seconds(hand.property);
+            let hand = Premise {
+                number: hand.number,
+                fact: Fact::Edge(hand.source, hand.property, hand.target),
+            };
+            self.join_before(facts, hand, seconds, numbers)?;
         }
         Ok(())
     }
@@ -412,22 +435,23 @@ impl Rules<'_> {
     fn lead_up(
         &self,
         facts: &mut KnownFacts,
-        hand: u32,
-        edge: Fact,
-        property: PropId2,
+        hand: EdgePremise,
         is_second: bool,
         numbers: &[u32],
     ) -> Result<(), Stop>
         requires derived { IsDerived self.now.problem.now facts.old }
-        requires hand { slice_get facts.old.facts hand ≡ Some edge }
-        requires property { IsBy property edge }
-        requires second { is_second ≡ false → IsRedundantAsSecond self.now.problem.now facts.old edge }
+        requires hand { slice_get facts.old.facts hand.number ≡ Some (edge_fact hand) }
+        requires second { is_second ≡ false → IsRedundantAsSecond self.now.problem.now facts.old (edge_fact hand) }
         requires numbers { AreAll IsEdge facts.old.facts numbers.now }
-        ensures { Draws self.now facts.old facts.new result (AreMetBehind self.now.problem.now edge facts.old.facts numbers.now facts.new) }
+        ensures { Draws self.now facts.old facts.new result (AreMetBehind self.now.problem.now (edge_fact hand) facts.old.facts numbers.now facts.new) }
     {
         if is_second {
-            let ends = self.joins.ends(property);
-            self.join_behind(facts, hand, edge, ends, numbers)?;
+            let ends = self.joins.ends(hand.property);
+            let hand = Premise {
+                number: hand.number,
+                fact: Fact::Edge(hand.source, hand.property, hand.target),
+            };
+            self.join_behind(facts, hand, ends, numbers)?;
         }
         Ok(())
     }
@@ -437,25 +461,36 @@ impl Rules<'_> {
         &self,
         facts: &mut KnownFacts,
         index: &Index,
-        hand: u32,
-        fact: Fact,
+        hand: Premise,
         is_second: bool,
     ) -> Result<(), Stop>
         requires derived { IsDerived self.now.problem.now facts.old }
-        requires hand { slice_get facts.old.facts hand ≡ Some fact }
+        requires hand { slice_get facts.old.facts hand.number ≡ Some hand.fact }
         requires index { IsWithin facts.old.facts index.now }
-        requires second { is_second ≡ false → IsRedundantAsSecond self.now.problem.now facts.old fact }
-        ensures { Draws self.now facts.old facts.new result (AllListedAreMet self.now.problem.now fact facts.old.facts index.now facts.new) }
+        requires second { is_second ≡ false → IsRedundantAsSecond self.now.problem.now facts.old hand.fact }
+        ensures { Draws self.now facts.old facts.new result (AllListedAreMet self.now.problem.now hand.fact facts.old.facts index.now facts.new) }
     {
-        match fact {
-            Fact::In(class, x) => {
-                self.meet_classes(facts, hand, class, x, index.classes_in(x))?;
-                self.carry(facts, hand, class, x, index.edges_into(x))?;
+        let number = hand.number;
+        match hand.fact {
+            Fact::In(class, context) => {
+                let hand = ClassPremise {
+                    number,
+                    class,
+                    context,
+                };
+                self.meet_classes(facts, hand, index.classes_in(context))?;
+                self.carry(facts, hand, index.edges_into(context))?;
             }
-            Fact::Edge(x, property, y) => {
-                self.meet_fillers(facts, hand, fact, property, y, index.fillers_in(y))?;
-                self.lead_on(facts, hand, fact, property, index.second_premises_from(y))?;
-                self.lead_up(facts, hand, fact, property, is_second, index.edges_into(x))?;
+            Fact::Edge(source, property, target) => {
+                let hand = EdgePremise {
+                    number,
+                    source,
+                    property,
+                    target,
+                };
+                self.meet_fillers(facts, hand, index.fillers_in(target))?;
+                self.lead_on(facts, hand, index.second_premises_from(target))?;
+                self.lead_up(facts, hand, is_second, index.edges_into(source))?;
             }
         }
         Ok(())
@@ -467,18 +502,18 @@ impl Rules<'_> {
         &self,
         facts: &mut KnownFacts,
         index: &Index,
-        hand: u32,
-        fact: Fact,
+        hand: Premise,
         is_second: bool,
     ) -> Result<(), Stop>
         requires derived { IsDerived self.now.problem.now facts.old }
-        requires hand { slice_get facts.old.facts hand ≡ Some fact }
+        requires hand { slice_get facts.old.facts hand.number ≡ Some hand.fact }
         requires index { IsWithin facts.old.facts index.now }
-        requires second { is_second ≡ false → IsRedundantAsSecond self.now.problem.now facts.old fact }
-        ensures { Draws self.now facts.old facts.new result (HasServed self.now.problem.now hand fact facts.old index.now facts.new) }
+        requires second { is_second ≡ false → IsRedundantAsSecond self.now.problem.now facts.old hand.fact }
+        ensures { Draws self.now facts.old facts.new result (HasServed self.now.problem.now hand.number hand.fact facts.old index.now facts.new) }
     {
-        self.draw_alone(facts, hand, fact)?;
-        self.meet_listed(facts, index, hand, fact, is_second)?;
+        facts.own(source_of(hand.fact));
+        self.draw_alone(facts, hand)?;
+        self.meet_listed(facts, index, hand, is_second)?;
         Ok(())
     }
 }

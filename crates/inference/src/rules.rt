@@ -16,6 +16,7 @@ use crate::entries::note_entered;
 use crate::joins::Joins;
 use crate::known_facts::{KnownFacts, Stop};
 use crate::led::class_alone;
+use crate::premises::{ClassPremise, Premise, Premises};
 use crate::visits::{chained, filled, is_long, visited};
 use facts::{Birth, Context, Fact};
 use indexes::{Groups, IndexedProblem};
@@ -74,24 +75,29 @@ impl Rules<'_> {
         Ok(())
     }
 
-    /// Adds what the form of that number gives from the facts, whose numbers are given too.
+    /// Adds what the form of that number gives from the facts.
     #[inline(always)]
     pub(crate) fn draw_form(
         &self,
         facts: &mut KnownFacts,
         number: u32,
-        numbers: &[u32],
-        older: &[Fact],
+        older: Premises<'_>,
     ) -> Result<(), Stop>
         requires derived { IsDerived self.now.problem.now facts.old }
-        requires older { AreAt facts.old.facts numbers.now older.now }
-        ensures { Draws self.now facts.old facts.new result (IsDrawnFrom self.now.problem.now older.now facts.new.facts number) }
+        requires older { AreAt facts.old.facts older.numbers.now older.facts.now }
+        ensures { Draws self.now facts.old facts.new result (IsDrawnFrom self.now.problem.now older.entry.facts.now facts.new.facts number) }
     {
         let Some(form) = self.problem.form(number) else {
             return Ok(());
         };
-        if let Some(fact) = conclusion(self.closure, &form, older) {
-            self.add(facts, fact, condition_of(&form), numbers, Some(number))?;
+        if let Some(fact) = conclusion(self.closure, &form, older.facts) {
+            self.add(
+                facts,
+                fact,
+                condition_of(&form),
+                older.numbers,
+                Some(number),
+            )?;
         }
         Ok(())
     }
@@ -102,15 +108,14 @@ impl Rules<'_> {
         &self,
         facts: &mut KnownFacts,
         listed: &[u32],
-        numbers: &[u32],
-        older: &[Fact],
+        older: Premises<'_>,
     ) -> Result<(), Stop>
         requires derived { IsDerived self.now.problem.now facts.old }
-        requires older { AreAt facts.old.facts numbers.now older.now }
-        ensures { Draws self.now facts.old facts.new result (AreDrawnFrom self.now.problem.now older.now facts.new.facts listed.now) }
+        requires older { AreAt facts.old.facts older.numbers.now older.facts.now }
+        ensures { Draws self.now facts.old facts.new result (AreDrawnFrom self.now.problem.now older.entry.facts.now facts.new.facts listed.now) }
     {
         for number in listed {
-            self.draw_form(facts, *number, numbers, older)?;
+            self.draw_form(facts, *number, older)?;
         }
         Ok(())
     }
@@ -121,18 +126,17 @@ impl Rules<'_> {
         facts: &mut KnownFacts,
         property: PropId2,
         filler: Class2,
-        numbers: &[u32],
-        older: &[Fact],
+        older: Premises<'_>,
     ) -> Result<(), Stop>
         requires derived { IsDerived self.now.problem.now facts.old }
-        requires older { AreAt facts.old.facts numbers.now older.now }
-        requires filled { filled_property older.now ≡ Some (property, filler) }
+        requires older { AreAt facts.old.facts older.numbers.now older.facts.now }
+        requires filled { filled_property older.facts.now ≡ Some (property, filler) }
         requires has { Has self.now.closure.now property }
-        ensures { Draws self.now facts.old facts.new result (AllRestrictionsDrawn self.now.problem.now older.now facts.new.facts filler) }
+        ensures { Draws self.now facts.old facts.new result (AllRestrictionsDrawn self.now.problem.now older.entry.facts.now facts.new.facts filler) }
     {
         for above in self.closure.supers(property) {
             let listed = self.problem.restrictions(*above, filler);
-            self.draw_listed(facts, listed, numbers, older)?;
+            self.draw_listed(facts, listed, older)?;
         }
         Ok(())
     }
@@ -144,20 +148,19 @@ impl Rules<'_> {
         facts: &mut KnownFacts,
         property: PropId2,
         filler: Class2,
-        numbers: &[u32],
-        older: &[Fact],
+        older: Premises<'_>,
     ) -> Result<(), Stop>
         requires derived { IsDerived self.now.problem.now facts.old }
-        requires older { AreAt facts.old.facts numbers.now older.now }
-        requires filled { filled_property older.now ≡ Some (property, filler) }
+        requires older { AreAt facts.old.facts older.numbers.now older.facts.now }
+        requires filled { filled_property older.facts.now ≡ Some (property, filler) }
         requires has { Has self.now.closure.now property }
-        ensures { Draws self.now facts.old facts.new result (AllRestrictionsDrawn self.now.problem.now older.now facts.new.facts filler) }
+        ensures { Draws self.now facts.old facts.new result (AllRestrictionsDrawn self.now.problem.now older.entry.facts.now facts.new.facts filler) }
     {
         let listed = self.problem.led_by_filler(filler);
         if is_long(listed.len(), self.closure.supers(property)) {
-            return self.draw_restrictions_of(facts, property, filler, numbers, older);
+            return self.draw_restrictions_of(facts, property, filler, older);
         }
-        self.draw_all_led(facts, listed, numbers, older)?;
+        self.draw_all_led(facts, listed, older)?;
         Ok(())
     }
 
@@ -167,18 +170,17 @@ impl Rules<'_> {
         facts: &mut KnownFacts,
         first: PropId2,
         second: PropId2,
-        numbers: &[u32],
-        older: &[Fact],
+        older: Premises<'_>,
     ) -> Result<(), Stop>
         requires derived { IsDerived self.now.problem.now facts.old }
-        requires older { AreAt facts.old.facts numbers.now older.now }
-        requires second { IsBehind second older.now }
+        requires older { AreAt facts.old.facts older.numbers.now older.facts.now }
+        requires second { IsBehind second older.facts.now }
         requires has { Has self.now.closure.now second }
-        ensures { Draws self.now facts.old facts.new result (ChainsDrawn self.now.problem.now older.now facts.new.facts first) }
+        ensures { Draws self.now facts.old facts.new result (ChainsDrawn self.now.problem.now older.entry.facts.now facts.new.facts first) }
     {
         for above in self.closure.supers(second) {
             let listed = self.problem.chains(first, *above);
-            self.draw_listed(facts, listed, numbers, older)?;
+            self.draw_listed(facts, listed, older)?;
         }
         Ok(())
     }
@@ -190,20 +192,19 @@ impl Rules<'_> {
         facts: &mut KnownFacts,
         first: PropId2,
         second: PropId2,
-        numbers: &[u32],
-        older: &[Fact],
+        older: Premises<'_>,
     ) -> Result<(), Stop>
         requires derived { IsDerived self.now.problem.now facts.old }
-        requires older { AreAt facts.old.facts numbers.now older.now }
-        requires second { IsBehind second older.now }
+        requires older { AreAt facts.old.facts older.numbers.now older.facts.now }
+        requires second { IsBehind second older.facts.now }
         requires has { Has self.now.closure.now second }
-        ensures { Draws self.now facts.old facts.new result (ChainsDrawn self.now.problem.now older.now facts.new.facts first) }
+        ensures { Draws self.now facts.old facts.new result (ChainsDrawn self.now.problem.now older.entry.facts.now facts.new.facts first) }
     {
         let listed = self.problem.chains_from(first);
         if is_long(listed.len(), self.closure.supers(second)) {
-            return self.draw_chains_of(facts, first, second, numbers, older);
+            return self.draw_chains_of(facts, first, second, older);
         }
-        self.draw_listed(facts, listed, numbers, older)?;
+        self.draw_listed(facts, listed, older)?;
         Ok(())
     }
 
@@ -215,112 +216,86 @@ impl Rules<'_> {
         facts: &mut KnownFacts,
         first: PropId2,
         second: PropId2,
-        numbers: &[u32],
-        older: &[Fact],
+        older: Premises<'_>,
     ) -> Result<(), Stop>
         requires derived { IsDerived self.now.problem.now facts.old }
-        requires older { AreAt facts.old.facts numbers.now older.now }
-        requires second { IsBehind second older.now }
+        requires older { AreAt facts.old.facts older.numbers.now older.facts.now }
+        requires second { IsBehind second older.facts.now }
         requires has { Has self.now.closure.now first }
         requires has_second { Has self.now.closure.now second }
-        ensures { Draws self.now facts.old facts.new result (AllChainsDrawn self.now.problem.now older.now facts.new.facts first) }
+        ensures { Draws self.now facts.old facts.new result (AllChainsDrawn self.now.problem.now older.entry.facts.now facts.new.facts first) }
     {
         for above in self.closure.supers(first) {
-            self.draw_chains_from(facts, *above, second, numbers, older)?;
+            self.draw_chains_from(facts, *above, second, older)?;
         }
         Ok(())
     }
 
     /// Adds what restrictions give from the facts, where they are an edge and a class in a context.
     #[inline(always)]
-    fn draw_filled(
-        &self,
-        facts: &mut KnownFacts,
-        numbers: &[u32],
-        older: &[Fact],
-    ) -> Result<(), Stop>
+    fn draw_filled(&self, facts: &mut KnownFacts, older: Premises<'_>) -> Result<(), Stop>
         requires derived { IsDerived self.now.problem.now facts.old }
-        requires older { AreAt facts.old.facts numbers.now older.now }
-        ensures { Draws self.now facts.old facts.new result (IsFillingDrawn self.now.problem.now older.now facts.new.facts) }
+        requires older { AreAt facts.old.facts older.numbers.now older.facts.now }
+        ensures { Draws self.now facts.old facts.new result (IsFillingDrawn self.now.problem.now older.entry.facts.now facts.new.facts) }
     {
-        if let Some((property, filler)) = filled(older) {
-            self.draw_restrictions(facts, property, filler, numbers, older)?;
+        if let Some((property, filler)) = filled(older.facts) {
+            self.draw_restrictions(facts, property, filler, older)?;
         }
         Ok(())
     }
 
     /// Adds what chains give from the facts, where they are two edges.
     #[inline(always)]
-    fn draw_chained(
-        &self,
-        facts: &mut KnownFacts,
-        numbers: &[u32],
-        older: &[Fact],
-    ) -> Result<(), Stop>
+    fn draw_chained(&self, facts: &mut KnownFacts, older: Premises<'_>) -> Result<(), Stop>
         requires derived { IsDerived self.now.problem.now facts.old }
-        requires older { AreAt facts.old.facts numbers.now older.now }
-        ensures { Draws self.now facts.old facts.new result (IsChainingDrawn self.now.problem.now older.now facts.new.facts) }
+        requires older { AreAt facts.old.facts older.numbers.now older.facts.now }
+        ensures { Draws self.now facts.old facts.new result (IsChainingDrawn self.now.problem.now older.entry.facts.now facts.new.facts) }
     {
-        if let Some((first, second)) = chained(older) {
-            self.draw_chains(facts, first, second, numbers, older)?;
+        if let Some((first, second)) = chained(older.facts) {
+            self.draw_chains(facts, first, second, older)?;
         }
         Ok(())
     }
 
     /// Adds what the forms, but chains and restrictions, give from the facts.
     #[inline(always)]
-    fn draw_others(
-        &self,
-        facts: &mut KnownFacts,
-        numbers: &[u32],
-        older: &[Fact],
-    ) -> Result<(), Stop>
+    fn draw_others(&self, facts: &mut KnownFacts, older: Premises<'_>) -> Result<(), Stop>
         requires derived { IsDerived self.now.problem.now facts.old }
-        requires older { AreAt facts.old.facts numbers.now older.now }
-        ensures { Draws self.now facts.old facts.new result (AreOthersDrawn self.now.problem.now older.now facts.new.facts) }
+        requires older { AreAt facts.old.facts older.numbers.now older.facts.now }
+        ensures { Draws self.now facts.old facts.new result (AreOthersDrawn self.now.problem.now older.entry.facts.now facts.new.facts) }
     {
-        match class_alone(older) {
+        match class_alone(older.facts) {
             Some(class) => {
-                self.draw_all_led(facts, self.problem.led_alone(class), numbers, older)?;
+                self.draw_all_led(facts, self.problem.led_alone(class), older)?;
             }
-            None => self.draw_listed(facts, visited(self.problem, older), numbers, older)?,
+            None => self.draw_listed(facts, visited(self.problem, older.facts), older)?,
         }
         Ok(())
     }
 
     /// Adds what all forms give from the facts, visiting those that are listed for them.
     #[inline(always)]
-    fn draw_forms(
-        &self,
-        facts: &mut KnownFacts,
-        numbers: &[u32],
-        older: &[Fact],
-    ) -> Result<(), Stop>
+    fn draw_forms(&self, facts: &mut KnownFacts, older: Premises<'_>) -> Result<(), Stop>
         requires derived { IsDerived self.now.problem.now facts.old }
-        requires older { AreAt facts.old.facts numbers.now older.now }
-        ensures { Draws self.now facts.old facts.new result (AreDrawn self.now.problem.now older.now facts.new.facts) }
+        requires older { AreAt facts.old.facts older.numbers.now older.facts.now }
+        ensures { Draws self.now facts.old facts.new result (AreDrawn self.now.problem.now older.entry.facts.now facts.new.facts) }
     {
-        self.draw_others(facts, numbers, older)?;
-        self.draw_filled(facts, numbers, older)?;
-        self.draw_chained(facts, numbers, older)?;
+        self.draw_others(facts, older)?;
+        self.draw_filled(facts, older)?;
+        self.draw_chained(facts, older)?;
         Ok(())
     }
 
     /// Adds what forms give from the facts, and carries `owl:Nothing` back.
     #[inline(always)]
-    pub(crate) fn draw(
-        &self,
-        facts: &mut KnownFacts,
-        numbers: &[u32],
-        older: &[Fact],
-    ) -> Result<(), Stop>
+    pub(crate) fn draw(&self, facts: &mut KnownFacts, older: Premises<'_>) -> Result<(), Stop>
         requires derived { IsDerived self.now.problem.now facts.old }
-        requires older { AreAt facts.old.facts numbers.now older.now }
-        ensures { Draws self.now facts.old facts.new result (AreConcluded self.now.problem.now older.now facts.new.facts) }
+        requires older { AreAt facts.old.facts older.numbers.now older.facts.now }
+        ensures { Draws self.now facts.old facts.new result (AreConcluded self.now.problem.now older.entry.facts.now facts.new.facts) }
     {
-        self.draw_forms(facts, numbers, older)?;
-        if let Some(fact) = carried_back(older) {
-            self.add(facts, fact, 8, numbers, None)?;
+        self.draw_forms(facts, older)?;
+        if let Some(fact) = carried_back(older.facts) {
+            self.add(facts, fact, 8, older.numbers, None)?;
         }
         Ok(())
     }
@@ -425,7 +400,11 @@ impl Rules<'_> {
         for number in entered..roots.len() {
             self.enter(facts, roots[number], &[])?;
         }
-        self.draw(facts, &[], &[])?;
+        let none = Premises {
+            numbers: &[],
+            facts: &[],
+        };
+        self.draw(facts, none)?;
         self.draw_different(facts)?;
         Ok(())
     }
@@ -473,21 +452,28 @@ impl Rules<'_> {
     }
 
     /// Adds what the fact of that number gives alone: an edge its target as a context, the entry of a context the loops at it.
-    pub(crate) fn draw_alone(
-        &self,
-        facts: &mut KnownFacts,
-        hand: u32,
-        fact: Fact,
-    ) -> Result<(), Stop>
+    pub(crate) fn draw_alone(&self, facts: &mut KnownFacts, hand: Premise) -> Result<(), Stop>
         requires derived { IsDerived self.now.problem.now facts.old }
-        requires hand { slice_get facts.old.facts hand ≡ Some fact }
-        ensures { Draws self.now facts.old facts.new result (IsDrawnAlone self.now.problem.now hand fact facts.old facts.new) }
+        requires hand { slice_get facts.old.facts hand.number ≡ Some hand.fact }
+        ensures { Draws self.now facts.old facts.new result (IsDrawnAlone self.now.problem.now hand.number hand.fact facts.old facts.new) }
     {
-        self.draw(facts, &[hand], &[fact])?;
-        self.hand_on(facts, hand, fact)?;
-        match fact {
-            Fact::In(class, context) => self.draw_owed_loops(facts, hand, class, context)?,
-            Fact::Edge(_, _, target) => self.enter(facts, target, &[hand])?,
+        let number = hand.number;
+        let alone = Premises {
+            numbers: &[number],
+            facts: &[hand.fact],
+        };
+        self.draw(facts, alone)?;
+        self.hand_on(facts, hand)?;
+        match hand.fact {
+            Fact::In(class, context) => {
+                let hand = ClassPremise {
+                    number,
+                    class,
+                    context,
+                };
+                self.draw_owed_loops(facts, hand)?;
+            }
+            Fact::Edge(_, _, target) => self.enter(facts, target, &[number])?,
         }
         Ok(())
     }

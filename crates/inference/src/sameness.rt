@@ -8,6 +8,7 @@ ghost use Rattle.inference.specs.Sameness.{IsHandedOn, IsHandedOnAt, IsHandedOnB
 
 use crate::conclusions::{at_linked_source, at_linked_target};
 use crate::known_facts::{KnownFacts, Stop};
+use crate::premises::Premise;
 use crate::rules::Rules;
 use facts::{Context, Fact};
 
@@ -31,22 +32,26 @@ impl Rules<'_> {
     }
 
     /// Adds the fact with one individual in the place of the other, where the form of that number makes the two one.
-    fn hand_on_by(
-        &self,
-        facts: &mut KnownFacts,
-        number: u32,
-        hand: u32,
-        fact: Fact,
-    ) -> Result<(), Stop>
+    fn hand_on_by(&self, facts: &mut KnownFacts, number: u32, hand: Premise) -> Result<(), Stop>
         requires derived { IsDerived self.now.problem.now facts.old }
-        requires hand { slice_get facts.old.facts hand ≡ Some fact }
-        ensures { Draws self.now facts.old facts.new result (IsHandedOnBy self.now.problem.now fact facts.new.facts number) }
+        requires hand { slice_get facts.old.facts hand.number ≡ Some hand.fact }
+        ensures { Draws self.now facts.old facts.new result (IsHandedOnBy self.now.problem.now hand.fact facts.new.facts number) }
     {
         let Some(form) = self.problem.form(number) else {
             return Ok(());
         };
-        self.hand_over(facts, number, hand, at_linked_source(&form, fact))?;
-        self.hand_over(facts, number, hand, at_linked_target(&form, fact))?;
+        self.hand_over(
+            facts,
+            number,
+            hand.number,
+            at_linked_source(&form, hand.fact),
+        )?;
+        self.hand_over(
+            facts,
+            number,
+            hand.number,
+            at_linked_target(&form, hand.fact),
+        )?;
         Ok(())
     }
 
@@ -55,15 +60,14 @@ impl Rules<'_> {
         &self,
         facts: &mut KnownFacts,
         listed: &[u32],
-        hand: u32,
-        fact: Fact,
+        hand: Premise,
     ) -> Result<(), Stop>
         requires derived { IsDerived self.now.problem.now facts.old }
-        requires hand { slice_get facts.old.facts hand ≡ Some fact }
-        ensures { Draws self.now facts.old facts.new result ((n : ℕ) → Contains listed.now n → IsHandedOnBy self.now.problem.now fact facts.new.facts n) }
+        requires hand { slice_get facts.old.facts hand.number ≡ Some hand.fact }
+        ensures { Draws self.now facts.old facts.new result ((n : ℕ) → Contains listed.now n → IsHandedOnBy self.now.problem.now hand.fact facts.new.facts n) }
     {
         for number in listed {
-            self.hand_on_by(facts, *number, hand, fact)?;
+            self.hand_on_by(facts, *number, hand)?;
         }
         Ok(())
     }
@@ -73,35 +77,34 @@ impl Rules<'_> {
         &self,
         facts: &mut KnownFacts,
         context: Context,
-        hand: u32,
-        fact: Fact,
+        hand: Premise,
     ) -> Result<(), Stop>
         requires derived { IsDerived self.now.problem.now facts.old }
-        requires hand { slice_get facts.old.facts hand ≡ Some fact }
-        ensures { Draws self.now facts.old facts.new result (IsHandedOnAt self.now.problem.now context fact facts.new.facts) }
+        requires hand { slice_get facts.old.facts hand.number ≡ Some hand.fact }
+        ensures { Draws self.now facts.old facts.new result (IsHandedOnAt self.now.problem.now context hand.fact facts.new.facts) }
     {
         if let Context::Individual(individual) = context {
             let problem = self.problem;
-            self.hand_on_by_all(facts, problem.linked_first(individual), hand, fact)?;
-            self.hand_on_by_all(facts, problem.linked_second(individual), hand, fact)?;
+            self.hand_on_by_all(facts, problem.linked_first(individual), hand)?;
+            self.hand_on_by_all(facts, problem.linked_second(individual), hand)?;
         }
         Ok(())
     }
 
     /// Adds the fact with one individual in the place of the other, once, for each form that makes two individuals one.
-    pub(crate) fn hand_on(&self, facts: &mut KnownFacts, hand: u32, fact: Fact) -> Result<(), Stop>
+    pub(crate) fn hand_on(&self, facts: &mut KnownFacts, hand: Premise) -> Result<(), Stop>
         requires derived { IsDerived self.now.problem.now facts.old }
-        requires hand { slice_get facts.old.facts hand ≡ Some fact }
-        ensures { Draws self.now facts.old facts.new result (IsHandedOn self.now.problem.now fact facts.new.facts) }
+        requires hand { slice_get facts.old.facts hand.number ≡ Some hand.fact }
+        ensures { Draws self.now facts.old facts.new result (IsHandedOn self.now.problem.now hand.fact facts.new.facts) }
     {
         if !self.problem.has_links() {
             return Ok(());
         }
-        match fact {
-            Fact::In(_, x) => self.hand_on_at(facts, x, hand, fact)?,
+        match hand.fact {
+            Fact::In(_, x) => self.hand_on_at(facts, x, hand)?,
             Fact::Edge(x, _, y) => {
-                self.hand_on_at(facts, x, hand, fact)?;
-                self.hand_on_at(facts, y, hand, fact)?;
+                self.hand_on_at(facts, x, hand)?;
+                self.hand_on_at(facts, y, hand)?;
             }
         }
         Ok(())

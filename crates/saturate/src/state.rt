@@ -16,7 +16,7 @@ use crate::queue::Queue;
 use axioms::Memory;
 use facts::{Birth, Context, Fact, FactId, StoredFact};
 use indexes::Index;
-use inference::{KnownFacts, Rules, Stop, is_filler, is_second_premise};
+use inference::{KnownFacts, Premise, Rules, Stop, is_filler, is_second_premise};
 use normal_forms::{ApartLists, FormList};
 use property_closure::PropertyClosure;
 use std::alloc::Global;
@@ -324,7 +324,8 @@ impl<W: WorkList> State<W> {
             joins: self.ground.joins(),
             max_facts,
         };
-        rules.serve(&mut self.facts, &self.index, hand, fact, is_second)?;
+        let premise = Premise { number: hand, fact };
+        rules.serve(&mut self.facts, &self.index, premise, is_second)?;
         self.queue.finish();
         Ok(true)
     }

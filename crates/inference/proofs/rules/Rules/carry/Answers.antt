@@ -13,5 +13,5 @@ meet_behind-requires-clause-filled c = c.filled-filled.ensures c.args.self.now.p
 
 pub returns-else-is_carried : goal.returns-else-is_carried
 returns-else-is_carried c = draws (grows_same c.requires.derived) (λ n there g at.
-    not_carried c.args.self.now.problem.now c.args.class c.args.context g c.args.facts.now (c.is_carried.ensures.nothing c.if-is_carried.false) (c.is_carried.ensures.filler c.if-is_carried.false)
+    not_carried c.args.self.now.problem.now c.args.hand.class c.args.hand.context g c.args.facts.now (c.is_carried.ensures.nothing c.if-is_carried.false) (c.is_carried.ensures.filler c.if-is_carried.false)
     (kind_of IsEdge c.args.facts.now.facts c.args.numbers.now c.requires.numbers n there g at))

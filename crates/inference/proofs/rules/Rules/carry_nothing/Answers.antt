@@ -1,6 +1,7 @@
-use Rattle.std.proofs.Common.{[], ◌∷◌, None, subst}
+use Rattle.std.proofs.Common.{[], ◌∷◌, None, refl, subst}
 use Rattle.facts.specs.declared.contexts.Fact.{Fact}
 use Rattle.facts.specs.Closure.{Gives, unsatisfiable}
+use Rattle.inference.specs.Premises.{edge_fact}
 use Rattle.inference.proofs.Drawing.{draws}
 use Rattle.inference.proofs.Restrictions.{nothing_there}
 use Rattle.inference.proofs.rules.Rules.carry_nothing.Goals as goal
@@ -8,6 +9,6 @@ use Rattle.inference.proofs.rules.Rules.carry_nothing.Goals as goal
 pub returns-in_ok-draw_pair : goal.returns-in_ok-draw_pair
 returns-in_ok-draw_pair c =
     let k = c.args.self.now.problem.now in
-    let edge = c.args.edge in
-    draws c.draw_pair.ensures.grows (λ g h there w.
-    c.in_ok-draw_pair.ensures.drawn 8 None h (subst (λ (f : Fact). Gives k 8 None (edge ∷ f ∷ []) h) (nothing_there edge g h c.args.target c.requires.target w) (unsatisfiable w)))
+    let edge = edge_fact c.args.hand in
+    rw (← c.seek.ensures.same) (draws c.draw_pair.ensures.grows (λ g h there w.
+    c.in_ok-draw_pair.ensures.drawn 8 None h (subst (λ (f : Fact). Gives k 8 None (edge ∷ f ∷ []) h) (nothing_there edge g h c.args.hand.target refl w) (unsatisfiable w))))

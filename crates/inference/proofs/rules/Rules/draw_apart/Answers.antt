@@ -11,12 +11,12 @@ use Rattle.inference.proofs.rules.Rules.draw_apart.Goals as goal
 pub returns : goal.returns
 returns c =
     let k = c.args.self.now.problem.now in
-    let x = c.args.context in
-    let f = In c.args.class x in
+    let x = c.args.hand.context in
+    let f = In c.args.hand.class x in
     let b = c.requires.other.0 in
     let new = c.draw_pair-2.new.facts.facts in
-    let same : c.get-other.result ≡ In b x = one_value _ c.get-other.result (In b x) c.get-other.ensures c.requires.other.2 in
+    let same : c.get.result ≡ In b x = one_value _ c.get.result (In b x) c.get.ensures c.requires.other.2 in
     draws (grows_trans c.draw_pair.ensures.grows c.draw_pair-2.ensures.grows)
-    (nothing_drawn k c.args.class b x new c.requires.other.1
+    (nothing_drawn k c.args.hand.class b x new c.requires.other.1
     (subst (λ (g : Fact). Drawn k (f ∷ g ∷ []) new) same (drawn_still c.draw_pair-2.ensures.grows _ c.in_ok-draw_pair.ensures.drawn))
     (subst (λ (g : Fact). Drawn k (g ∷ f ∷ []) new) same c.in_ok-draw_pair-2.ensures.drawn))

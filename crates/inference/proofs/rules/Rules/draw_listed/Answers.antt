@@ -5,12 +5,12 @@ use Rattle.inference.proofs.Drawing.{at_still, draws, each_more, each, drawn_at_
 use Rattle.inference.proofs.rules.Rules.draw_listed.Goals as goal
 
 pub draw_form-requires-clause-older : goal.draw_form-requires-clause-older
-draw_form-requires-clause-older c = at_still _ _ c.loop-number.invariant.grows.facts c.args.numbers.now c.args.older.now c.requires.older
+draw_form-requires-clause-older c = at_still _ _ c.loop-number.invariant.grows.facts c.args.older.numbers.now c.args.older.facts.now c.requires.older
 
 pub loop-number-preserved : goal.loop-number-preserved
 loop-number-preserved c =
     let k = c.args.self.now.problem.now in
-    let older = c.args.older.now in
+    let older = c.args.older.facts.now in
     let s = c.draw_form.ensures.grows in
     record {
       grows = grows_trans c.loop-number.invariant.grows s;
@@ -20,4 +20,4 @@ loop-number-preserved c =
 
 pub returns : goal.returns
 returns c =
-    draws c.loop-number.invariant.grows (each (IsDrawnFrom c.args.self.now.problem.now c.args.older.now c.loop-number.facts.facts) c.args.listed.now c.args.listed.now c.loop-number.number-index refl c.loop-number-test.false c.loop-number.invariant.drawn)
+    draws c.loop-number.invariant.grows (each (IsDrawnFrom c.args.self.now.problem.now c.args.older.facts.now c.loop-number.facts.facts) c.args.listed.now c.args.listed.now c.loop-number.number-index refl c.loop-number-test.false c.loop-number.invariant.drawn)

@@ -9,12 +9,12 @@ use Rattle.normal_forms.proofs.Suffice.{suffice}
 use Rattle.inference.proofs.rules.Rules.draw_restrictions_of.Goals as goal
 
 pub draw_listed-requires-clause-older : goal.draw_listed-requires-clause-older
-draw_listed-requires-clause-older c = at_still _ _ c.loop-above.invariant.grows.facts c.args.numbers.now c.args.older.now c.requires.older
+draw_listed-requires-clause-older c = at_still _ _ c.loop-above.invariant.grows.facts c.args.older.numbers.now c.args.older.facts.now c.requires.older
 
 pub loop-above-preserved : goal.loop-above-preserved
 loop-above-preserved c =
     let k = c.args.self.now.problem.now in
-    let older = c.args.older.now in
+    let older = c.args.older.facts.now in
     let s = c.draw_listed.ensures.grows in
     let items = c.supers-above-items.result.now in
     record {
@@ -30,7 +30,7 @@ returns c = draws c.loop-above.invariant.grows (λ n under form at f gives.
     let k = c.args.self.now.problem.now in
     let items = c.supers-above-items.result.now in
     let needs = ap by_filler (one_value _ form under.0 at under.1) ∙ under.2 in
-    let w = restricted k form c.args.older.now f c.args.property c.args.filler _ c.requires.filled needs gives in
-    each (AreRestrictionsDrawn k c.args.older.now c.loop-above.facts.facts c.args.filler) items items c.loop-above.above-index refl c.loop-above-test.false c.loop-above.invariant.drawn w.0
+    let w = restricted k form c.args.older.facts.now f c.args.property c.args.filler _ c.requires.filled needs gives in
+    each (AreRestrictionsDrawn k c.args.older.facts.now c.loop-above.facts.facts c.args.filler) items items c.loop-above.above-index refl c.loop-above-test.false c.loop-above.invariant.drawn w.0
     ((c.supers-above-items.ensures.exact w.0).1 (c.requires.has, rw c.args.self.now.closed.same ((suffice k.forms c.args.property w.0 (c.args.property, w.0)).0.1 w.1)))
     n under (form, at, w.2) form at f gives)

@@ -1,6 +1,7 @@
 use Rattle.std.proofs.Common.{refl}
 use Rattle.normal_forms.proofs.Suffice.{suffice}
 use Rattle.inference.specs.Marks.{AreFilledOn}
+use Rattle.inference.specs.Premises.{edge_fact}
 use Rattle.inference.proofs.Growth.{grows_trans}
 use Rattle.inference.proofs.Drawing.{draws, each_more, each}
 use Rattle.inference.proofs.Restrictions.{filled_all, filled_earlier, on_still}
@@ -9,7 +10,7 @@ use Rattle.inference.proofs.rules.Rules.fill_all.Goals as goal
 pub loop-above-preserved : goal.loop-above-preserved
 loop-above-preserved c =
     let k = c.args.self.now.problem.now in
-    let edge = c.args.edge in
+    let edge = edge_fact c.args.hand in
     let old = c.args.facts.now.facts in
     let s = c.loop-above.invariant.grows in
     let t = c.fill_by.ensures.grows in
@@ -24,10 +25,10 @@ loop-above-preserved c =
 pub returns : goal.returns
 returns c =
     let k = c.args.self.now.problem.now in
-    let p = c.args.property in
+    let p = c.args.hand.property in
     let old = c.args.facts.now.facts in
     let new = c.loop-above.facts.facts in
     let items = c.supers-above-items.result.now in
-    draws c.loop-above.invariant.grows (filled_all k c.args.edge old new p c.requires.property (λ r above.
-    each (AreFilledOn k c.args.edge old new) items items c.loop-above.above-index refl c.loop-above-test.false c.loop-above.invariant.filled r
+    draws c.loop-above.invariant.grows (filled_all k (edge_fact c.args.hand) old new p refl (λ r above.
+    each (AreFilledOn k (edge_fact c.args.hand) old new) items items c.loop-above.above-index refl c.loop-above-test.false c.loop-above.invariant.filled r
     ((c.supers-above-items.ensures.exact r).1 (c.requires.has, rw c.args.self.now.closed.same ((suffice k.forms p r (p, r)).0.1 above)))))

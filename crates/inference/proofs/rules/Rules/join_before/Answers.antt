@@ -12,19 +12,19 @@ use Rattle.inference.proofs.Redundancy.{all_drawn, up_to_redundancy_still}
 use Rattle.inference.proofs.rules.Rules.join_before.Goals as goal
 use Rattle.inference.proofs.rules.Rules.join_before.Goals.{then-may_follow+in_ok-draw_edges, else-may_follow}
 
-pub get-partner-requires : goal.get-partner-requires
-get-partner-requires c = next_there c.loop-number.invariant.grows c.args.numbers.now c.loop-number.number-index (numbers_within IsEdge c.args.facts.now.facts c.args.numbers.now c.requires.numbers) c.loop-number-test.true
+pub get-requires : goal.get-requires
+get-requires c = next_there c.loop-number.invariant.grows c.args.numbers.now c.loop-number.number-index (numbers_within IsEdge c.args.facts.now.facts c.args.numbers.now c.requires.numbers) c.loop-number-test.true
 
 pub draw_edges-requires-clause-other : goal.draw_edges-requires-clause-other
-draw_edges-requires-clause-other c = kind_read c.loop-number.invariant.grows IsEdge c.args.numbers.now c.loop-number.number-index c.get-partner.result c.requires.numbers c.loop-number-test.true c.get-partner.ensures
+draw_edges-requires-clause-other c = kind_read c.loop-number.invariant.grows IsEdge c.args.numbers.now c.loop-number.number-index c.get.result c.requires.numbers c.loop-number-test.true c.get.ensures
 
 pub draw_edges-requires-clause-edge : goal.draw_edges-requires-clause-edge
-draw_edges-requires-clause-edge c = edge_by_seconds c.args.self.now.problem.now.forms c.args.seconds c.args.edge c.requires.seconds
+draw_edges-requires-clause-edge c = edge_by_seconds c.args.self.now.problem.now.forms c.args.seconds c.args.hand.fact c.requires.seconds
 
 pub loop-number-preserved : goal.loop-number-preserved
 loop-number-preserved c =
     let k = c.args.self.now.problem.now in
-    let f = c.args.edge in
+    let f = c.args.hand.fact in
     let P = λ (d : Derived) (g : Fact). DrawnUpToRedundancy k (f ∷ g ∷ []) d in
     let numbers = c.args.numbers.now in
     let i = c.loop-number.number-index in
@@ -32,7 +32,7 @@ loop-number-preserved c =
     elim c.if-may_follow.branch [
       | then-may_follow+in_ok-draw_edges w ↦ rw w.facts-is (record {
         grows = grows_trans before.grows w.draw_edges.ensures.grows;
-        met = for_each_more before.grows (P c.loop-number.facts) (P w.draw_edges.new.facts) numbers i _ c.loop-number-test.true w.get-partner.ensures before.met
+        met = for_each_more before.grows (P c.loop-number.facts) (P w.draw_edges.new.facts) numbers i _ c.loop-number-test.true w.get.ensures before.met
             (λ g d. up_to_redundancy_still w.draw_edges.ensures.grows (f ∷ g ∷ []) d) (all_drawn k _ _ w.in_ok-draw_edges.ensures.drawn);
       })
       | else-may_follow w ↦ rw w.facts-is (record {

@@ -7,13 +7,13 @@ use Rattle.inference.proofs.Drawing.{drawn_still, draws}
 use Rattle.inference.proofs.Redundancy.{all_drawn}
 use Rattle.inference.proofs.rules.Rules.meet.Goals as goal
 
-pub returns-then-m-n : goal.returns-then-m-n
-returns-then-m-n c =
+pub returns-then-first-second : goal.returns-then-first-second
+returns-then-first-second c =
     let k = c.args.self.now.problem.now in
-    let f = c.args.f in
-    let g = c.args.g in
+    let f = c.args.first.fact in
+    let g = c.args.second.fact in
     let new = c.draw_pair.new.facts in
-    let same : f ≡ g = one_value _ f g c.requires.first (subst (λ (n : ℕ). slice_get c.args.facts.now.facts n ≡ Some g) (sym c.if-m-n.true) c.requires.second) in
+    let same : f ≡ g = one_value _ f g c.requires.first (subst (λ (n : ℕ). slice_get c.args.facts.now.facts n ≡ Some g) (sym c.if-first-second.true) c.requires.second) in
     let turned : f ∷ g ∷ [] ≡ g ∷ f ∷ [] = ap₂ (λ (x y : Fact). x ∷ y ∷ []) same (sym same) in
     let drawn = c.in_ok-draw_pair.ensures.drawn in
     draws c.draw_pair.ensures.grows (record {
@@ -26,6 +26,6 @@ returns c =
     let k = c.args.self.now.problem.now in
     let new = c.draw_pair-2.new.facts in
     draws (grows_trans c.draw_pair.ensures.grows c.draw_pair-2.ensures.grows) (record {
-      first = all_drawn k (c.args.f ∷ c.args.g ∷ []) new (drawn_still c.draw_pair-2.ensures.grows _ c.in_ok-draw_pair.ensures.drawn);
-      second = all_drawn k (c.args.g ∷ c.args.f ∷ []) new c.in_ok-draw_pair-2.ensures.drawn;
+      first = all_drawn k (c.args.first.fact ∷ c.args.second.fact ∷ []) new (drawn_still c.draw_pair-2.ensures.grows _ c.in_ok-draw_pair.ensures.drawn);
+      second = all_drawn k (c.args.second.fact ∷ c.args.first.fact ∷ []) new c.in_ok-draw_pair-2.ensures.drawn;
     })

@@ -12,13 +12,13 @@ use Rattle.inference.proofs.rules.Rules.meet_behind.Goals.{then-may_carry+in_ok-
 pub may_carry-requires : goal.may_carry-requires
 may_carry-requires c = next_there c.loop-number.invariant.grows c.args.numbers.now c.loop-number.number-index c.requires.numbers c.loop-number-test.true
 
-pub get-partner-requires : goal.get-partner-requires
-get-partner-requires c = next_there c.loop-number.invariant.grows c.args.numbers.now c.loop-number.number-index c.requires.numbers c.loop-number-test.true
+pub get-requires : goal.get-requires
+get-requires c = next_there c.loop-number.invariant.grows c.args.numbers.now c.loop-number.number-index c.requires.numbers c.loop-number-test.true
 
 pub loop-number-preserved : goal.loop-number-preserved
 loop-number-preserved c =
     let k = c.args.self.now.problem.now in
-    let f = c.args.fact in
+    let f = c.args.hand.fact in
     let P = λ (d : Derived) (g : Fact). DrawnUpToRedundancy k (g ∷ f ∷ []) d in
     let numbers = c.args.numbers.now in
     let i = c.loop-number.number-index in
@@ -26,7 +26,7 @@ loop-number-preserved c =
     elim c.if-may_carry.branch [
       | then-may_carry+in_ok-draw_two w ↦ rw w.facts-is (record {
         grows = grows_trans before.grows w.draw_two.ensures.grows;
-        met = for_each_more before.grows (P c.loop-number.facts) (P w.draw_two.new.facts) numbers i _ c.loop-number-test.true w.get-partner.ensures before.met
+        met = for_each_more before.grows (P c.loop-number.facts) (P w.draw_two.new.facts) numbers i _ c.loop-number-test.true w.get.ensures before.met
             (λ g d. up_to_redundancy_still w.draw_two.ensures.grows (g ∷ f ∷ []) d) (all_drawn k _ _ w.in_ok-draw_two.ensures.drawn);
       })
       | else-may_carry w ↦ rw w.facts-is (record {
