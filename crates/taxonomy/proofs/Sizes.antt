@@ -1,6 +1,6 @@
 -- What is strictly above a class has fewer superclasses, and what is above a class that is above another is above that.
 use Rattle.std.proofs.Common.{◌≡◌, ℕ, ◌<◌, ◌≤◌, List, [], ◌∷◌, ◌++◌, length, get_or, Bool, true, false, not, eqb, ltb, ◌&&◌, ◌||◌, take, inl, inr, refl, sym, ap, ap₂, ◌∙◌, ⊎_elim, arith}
-use Rattle.std.specs.List.{list_any}
+use Rattle.std.specs.List.{filter, list_any}
 use Rattle.std.specs.Prelude.{◌==◌}
 use Rattle.std.proofs.lemmas.List.{take_all}
 use Rattle.std.proofs.lemmas.Bool.{and_from, and_parts, both_ways, cases_Bool, cases_eq, cases_lt, eq-eqb, false_from_ne_true, false≢true, le-ltb, lt-ltb, ne_eqb, not-false, not-true, not_from_false, or_cases, or_left, or_right}
@@ -39,6 +39,11 @@ marked_by t old now k i items list e l h =
     h
     ∙ ap (λ xs. old || list_any (λ x. t x && (x == k)) xs) (take_all i items l ∙ e)
     ∙ ap (λ b. old || b) (at_one t k list)
+
+-- what was put behind the loop over a class's superclasses, where the test compares their numbers of superclasses
+pub filtered_by : (test : ℕ → ℕ → Bool) (size own i : ℕ) (got items list : List ℕ) → size ≡ own → items ≡ list → length items ≤ i
+    → got ≡ filter (λ h. test h size) (take i items) → got ≡ filter (λ h. test h own) list
+filtered_by test size own i got items list es e l h = h ∙ ap₂ (λ n xs. filter (λ h. test h n) xs) es (take_all i items l ∙ e)
 
 -- a test of one more adds nothing where another one passes by it
 pub covered : (t p : ℕ → Bool) (q : Bool) (xs : List ℕ) → ((j : ℕ) → t j ≡ true → q ≡ true → p j ≡ true) → list_any t xs ≡ true → list_any p xs ≡ (list_any p xs || q)

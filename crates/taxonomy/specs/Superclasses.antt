@@ -29,10 +29,11 @@ filled n [] lists = []
 filled n (b ∷ apart) [] = []
 filled n (b ∷ apart) (list ∷ lists) = (if b then numbers_below n else list) ∷ filled n apart lists
 
--- a set of numbers below n, and all of these numbers
-pub record HasAll (n : ℕ) (apart : List Bool) (all : List ℕ) : Type 0 where
-  pub long : length apart ≡ n
-  pub each : all ≡ numbers_below n
+-- lists, those that are kept apart as a set, all their numbers, and how many numbers each list has
+pub record AreWhole (lists : List (List ℕ)) (apart : List Bool) (all sizes : List ℕ) : Type 0 where
+  pub long : length apart ≡ length lists
+  pub each : all ≡ numbers_below (length lists)
+  pub sized : sizes ≡ map length (filled (length lists) apart lists)
 
 -- lists of numbers below the number of lists, in none of which a number stands twice
 pub record AreSets (lists : List (List ℕ)) : Type 0 where

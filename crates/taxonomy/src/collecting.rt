@@ -2,12 +2,12 @@
 ghost use Rattle.number_sets.specs.Members.{has};
 ghost use Rattle.number_sets.specs.Pieces.{list_at};
 ghost use Rattle.std.specs.List.{filter};
-ghost use Rattle.std.specs.Prelude.{◌&&◌, ◌<◌, ◌==◌, ◌||◌, ◌≡◌, IfOk, length, map, nat_lt, not, ℕ};
+ghost use Rattle.std.specs.Prelude.{◌&&◌, ◌<◌, ◌==◌, ◌||◌, ◌≡◌, IfOk, OnOk, length, map, nat_lt, not, ℕ};
 ghost use Rattle.taxonomy.specs.Relation.{IsSquare, is_below, is_listed};
 ghost use Rattle.taxonomy.specs.Superclasses.{AreSets, IsSetOf, is_among, rows_of};
 ghost use Rattle.taxonomy.specs.Texts.{nothing_class, numbers_below};
 
-use crate::superclasses::Superclasses;
+use crate::superclasses::{Superclasses, sizes_of};
 use axioms::{ClassId, Memory};
 use interpretation_spec::Row;
 use number_sets::{EpochSet, PackedLists};
@@ -59,19 +59,23 @@ fn put_new(seen: &mut EpochSet, d: usize) -> bool
     if seen.contains(d) { false } else { seen.put(d) }
 }
 
-/// The numbers of a list that are below the bound of `seen`, each once.
-pub(crate) fn once_of(alloc: Global, seen: &mut EpochSet, list: &[u32]) -> Result<Vec<u32>, Memory>
-    ensures set { IfOk result (λ v. IsSetOf (length seen.old) list.now v.items) }
+/// Puts the numbers of a list that are below the bound of `seen`, each once, in place of those that were found.
+pub(crate) fn put_once(
+    found: &mut Vec<u32>,
+    seen: &mut EpochSet,
+    list: &[u32],
+) -> Result<(), Memory>
+    ensures set { OnOk result (IsSetOf (length seen.old) list.now found.new.items) }
     ensures room { length seen.new ≡ length seen.old }
 {
     seen.clear();
-    let mut found = Vec::with_capacity(alloc, list.len())?;
+    found.clear();
     for d in list {
         if put_new(seen, *d as usize) {
             found.push(*d)?;
         }
     }
-    Ok(found)
+    Ok(())
 }
 
 /// The lists without what stands twice or has no list.
@@ -81,9 +85,11 @@ fn each_once(alloc: Global, lists: &PackedLists) -> Result<PackedLists, Memory>
         (λ l. (c : ℕ) → c < length lists.now → IsSetOf (length lists.now) (list_at lists.now c) (list_at l c)) }
 {
     let mut seen = EpochSet::new(alloc, lists.len())?;
+    let mut found = Vec::new(alloc);
     let mut once = PackedLists::new(alloc);
     for c in 0..lists.len() {
-        once.push_list(&once_of(alloc, &mut seen, lists.at(c))?)?;
+        put_once(&mut found, &mut seen, lists.at(c))?;
+        once.push_list(&found)?;
     }
     Ok(once)
 }
@@ -98,10 +104,12 @@ pub(crate) fn of_lists(alloc: Global, lists: &PackedLists) -> Result<Superclasse
     let all = all_below(alloc, lists.len())?;
     let apart = below_nothing(alloc, lists)?;
     let once = each_once(alloc, lists)?;
+    let sizes = sizes_of(alloc, &once, &apart)?;
     Ok(Superclasses {
         lists: once,
         apart,
         all,
+        sizes,
     })
 }
 
@@ -139,5 +147,11 @@ pub(crate) fn of_rows(alloc: Global, rows: &[Row]) -> Result<Superclasses, Memor
     let all = all_below(alloc, rows.len())?;
     let lists = each_members(alloc, &all, rows)?;
     let apart = Row::new(alloc, rows.len())?;
-    Ok(Superclasses { lists, apart, all })
+    let sizes = sizes_of(alloc, &lists, &apart)?;
+    Ok(Superclasses {
+        lists,
+        apart,
+        all,
+        sizes,
+    })
 }

@@ -2,7 +2,7 @@
 ghost use Rattle.number_sets.specs.Members.{has};
 ghost use Rattle.number_sets.specs.Pieces.{list_at};
 ghost use Rattle.std.specs.List.{All, filter};
-ghost use Rattle.std.specs.Prelude.{◌<◌, ◌||◌, ◌≡◌, IfOk, length, nat_eq, nat_lt, ℕ};
+ghost use Rattle.std.specs.Prelude.{◌<◌, ◌||◌, ◌≡◌, IfOk, OnOk, length, nat_eq, nat_lt, ℕ};
 ghost use Rattle.taxonomy.specs.Relation.{is_listed};
 ghost use Rattle.taxonomy.specs.Superclasses.{AreSuperclasses, is_among, is_as_large};
 ghost use Rattle.taxonomy.specs.Texts.{groups};
@@ -59,42 +59,40 @@ pub(crate) fn set_of(alloc: Global, n: usize, numbers: &[usize]) -> Result<Epoch
     Ok(set)
 }
 
-/// The superclasses of a class that have fewer superclasses.
-pub(crate) fn larger(alloc: Global, classes: &Superclasses, g: usize) -> Result<Vec<u32>, Memory>
-    ensures { IfOk result
-        (λ v. v.items ≡ filter (λ h. nat_lt (length (list_at classes.now h)) (length (list_at classes.now g))) (list_at classes.now g)) }
+/// Puts the superclasses of a class that have fewer superclasses in place of the numbers.
+pub(crate) fn put_larger(
+    numbers: &mut Vec<u32>,
+    classes: &Superclasses,
+    g: usize,
+) -> Result<(), Memory>
+    ensures { OnOk result
+        (numbers.new.items ≡ filter (λ h. nat_lt (length (list_at classes.now h)) (length (list_at classes.now g))) (list_at classes.now g)) }
 {
     let size = classes.len_at(g);
-    let above = classes.at(g).iter().copied();
-    Ok(
-        above
-            .filter(|h| classes.len_at(*h as usize) < size)
-            .collect(alloc)?,
-    )
+    numbers.clear();
+    for h in classes.at(g) {
+        if classes.len_at(*h as usize) < size {
+            numbers.push(*h)?;
+        }
+    }
+    Ok(())
 }
 
-/// The superclasses of a class that have as many superclasses.
-pub(crate) fn as_large(alloc: Global, classes: &Superclasses, g: usize) -> Result<Vec<u32>, Memory>
-    ensures { IfOk result
-        (λ v. v.items ≡ filter (λ h. nat_eq (length (list_at classes.now h)) (length (list_at classes.now g))) (list_at classes.now g)) }
+/// Puts the superclasses of a class that have as many superclasses in place of the numbers.
+pub(crate) fn put_as_large(
+    numbers: &mut Vec<u32>,
+    classes: &Superclasses,
+    g: usize,
+) -> Result<(), Memory>
+    ensures { OnOk result
+        (numbers.new.items ≡ filter (λ h. nat_eq (length (list_at classes.now h)) (length (list_at classes.now g))) (list_at classes.now g)) }
 {
     let size = classes.len_at(g);
-    let above = classes.at(g).iter().copied();
-    Ok(
-        above
-            .filter(|h| classes.len_at(*h as usize) == size)
-            .collect(alloc)?,
-    )
-}
-
-/// Those of the numbers that the set has.
-pub(crate) fn held(alloc: Global, set: &EpochSet, numbers: &[u32]) -> Result<Vec<u32>, Memory>
-    ensures { IfOk result (λ v. v.items ≡ filter (has set.now) numbers.now) }
-{
-    let numbers = numbers.iter().copied();
-    Ok(
-        numbers
-            .filter(|c| set.contains(*c as usize))
-            .collect(alloc)?,
-    )
+    numbers.clear();
+    for h in classes.at(g) {
+        if classes.len_at(*h as usize) == size {
+            numbers.push(*h)?;
+        }
+    }
+    Ok(())
 }

@@ -44,8 +44,9 @@ fn write_individuals(
         ≡ out.old.items
         ++ flat_map (individual_line groups.old.names (map string_bytes individuals.now) (lies_below groups.old.rows) (is_listed types.now)) order.now) }
 {
+    let mut least = Vec::new(groups.allocator());
     for a in order {
-        let least = groups.least(types.at(*a))?;
+        groups.put_least(&mut least, types.at(*a))?;
         write_line(out, groups.names(), individuals, *a, &least)?;
     }
     Ok(())

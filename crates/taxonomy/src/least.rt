@@ -2,7 +2,7 @@
 ghost use Rattle.number_sets.specs.Members.{has};
 ghost use Rattle.std.specs.List.{filter};
 ghost use Rattle.std.specs.List.Sorted.{IsPermutation};
-ghost use Rattle.std.specs.Prelude.{◌<◌, ◌||◌, ◌≡◌, IfOk, false, length, map, not, ℕ};
+ghost use Rattle.std.specs.Prelude.{◌<◌, ◌||◌, ◌≡◌, IfOk, OnOk, false, length, not, ℕ};
 ghost use Rattle.taxonomy.specs.Relation.{is_listed};
 ghost use Rattle.taxonomy.specs.ClassMarks.{HasRoom};
 ghost use Rattle.taxonomy.specs.Superclasses.{AreSuperclasses, is_larger};
@@ -65,63 +65,59 @@ fn mark_each(marks: &mut Marks, classes: &Superclasses, numbers: &[u32])
     }
 }
 
-/// Those of the numbers that the set does not have.
-fn missing(alloc: Global, set: &EpochSet, numbers: &[u32]) -> Result<Vec<u32>, Memory>
-    ensures { IfOk result (λ v. v.items ≡ filter (λ c. not (has set.now c)) numbers.now) }
+/// Puts those of the numbers that lead and that the set does not have in place of those that were found.
+fn put_missing(
+    found: &mut Vec<u32>,
+    set: &EpochSet,
+    leading: &EpochSet,
+    numbers: &[u32],
+) -> Result<(), Memory>
+    ensures { OnOk result (found.new.items ≡ filter (has leading.now) (filter (λ c. not (has set.now c)) numbers.now)) }
 {
-    let rest = numbers.iter().copied();
-    Ok(rest.filter(|c| !set.contains(*c as usize)).collect(alloc)?)
+    found.clear();
+    for c in numbers {
+        let number = *c as usize;
+        if !set.contains(number) && leading.contains(number) {
+            found.push(*c)?;
+        }
+    }
+    Ok(())
 }
 
-/// The numbers of classes, each behind the number of those that are not superclasses.
-fn with_sizes(
-    alloc: Global,
+/// Puts the same numbers in place of those that stand there, those that have most superclasses first: these mark most of the others.
+fn put_largest_first(
+    ordered: &mut Vec<u32>,
     classes: &Superclasses,
     numbers: &[u32],
-) -> Result<Vec<(usize, u32)>, Memory>
-    ensures { IfOk result (λ v. map (λ p. p.1) v.items ≡ numbers.now) }
+) -> Result<(), Memory>
+    ensures { OnOk result (IsPermutation numbers.now ordered.new.items) }
 {
-    let mut pairs = Vec::with_capacity(alloc, numbers.len())?;
-    for n in numbers {
-        let size = classes.len_at(*n as usize);
-        pairs.push((classes.len().saturating_sub(size), *n))?;
-    }
-    Ok(pairs)
+    ordered.clear();
+    ordered.extend_from_slice(numbers)?;
+    ordered.sort_unstable_by_key(|number| usize::MAX - classes.len_at(*number as usize));
+    Ok(())
 }
 
-/// The numbers of the pairs.
-fn second_parts(alloc: Global, pairs: &[(usize, u32)]) -> Result<Vec<u32>, Memory>
-    ensures { IfOk result (λ v. v.items ≡ map (λ p. p.1) pairs.now) }
-{
-    Ok(pairs.iter().map(|p| p.1).collect(alloc)?)
-}
-
-/// The same numbers, those that have most superclasses first: these mark most of the others.
-fn largest_first(alloc: Global, classes: &Superclasses, numbers: &[u32]) -> Result<Vec<u32>, Memory>
-    ensures { IfOk result (λ v. IsPermutation numbers.now v.items) }
-{
-    let mut pairs = with_sizes(alloc, classes, numbers)?;
-    pairs.sort()?;
-    let ordered = second_parts(alloc, &pairs)?;
-    Ok(ordered)
-}
-
-/// Those of the classes that are strictly above no other of them.
-pub(crate) fn least_of(
-    alloc: Global,
+/// Puts those of the classes that lead and that are strictly above no other of them in place of those that were found.
+/// `ordered` is room for this.
+pub(crate) fn put_least(
+    found: &mut Vec<u32>,
+    ordered: &mut Vec<u32>,
     marks: &mut Marks,
     classes: &Superclasses,
+    leading: &EpochSet,
     numbers: &[u32],
-) -> Result<Vec<u32>, Memory>
+) -> Result<(), Memory>
     requires superclasses { AreSuperclasses classes.now }
     requires room { HasRoom (length classes.now) marks.old }
     ensures room { HasRoom (length classes.now) marks.new }
-    ensures least { IfOk result (λ v. v.items ≡ filter (λ g. not (is_above_one (is_listed classes.now) numbers.now g)) numbers.now) }
+    ensures least { OnOk result
+        (found.new.items ≡ filter (has leading.now) (filter (λ g. not (is_above_one (is_listed classes.now) numbers.now g)) numbers.now)) }
 {
-    let ordered = largest_first(alloc, classes, numbers)?;
+    put_largest_first(ordered, classes, numbers)?;
     marks.above.clear();
     marks.strictly.clear();
-    mark_each(marks, classes, &ordered);
-    let least = missing(alloc, &marks.strictly, numbers)?;
-    Ok(least)
+    mark_each(marks, classes, ordered);
+    put_missing(found, &marks.strictly, leading, numbers)?;
+    Ok(())
 }

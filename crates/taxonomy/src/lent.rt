@@ -1,15 +1,15 @@
 //! The groups of a taxonomy, lent to who writes what its lines say.
 ghost use Rattle.std.specs.List.{filter};
-ghost use Rattle.std.specs.Prelude.{◌≡◌, IfOk, length, map};
+ghost use Rattle.std.specs.Prelude.{◌≡◌, IfOk, OnOk, length, map};
 ghost use Rattle.std.specs.String.{string_bytes};
 ghost use Rattle.taxonomy.specs.Relation.{lies_below};
 ghost use Rattle.taxonomy.specs.Superclasses.{is_among};
 ghost use Rattle.taxonomy.specs.Texts.{group, groups, in_byte_order, is_directly_above, is_same, least_groups};
 
-use crate::collecting::once_of;
-use crate::groups::{as_large, held, larger, leaders, set_of};
-use crate::least::{Marks, least_of, no_marks};
-use crate::order::{in_byte_order, sorted_by_name};
+use crate::collecting::put_once;
+use crate::groups::{leaders, put_as_large, put_larger, set_of};
+use crate::least::{Marks, no_marks, put_least};
+use crate::order::{in_byte_order, put_sorted_by_name};
 use crate::reduction::Taxonomy;
 use crate::superclasses::Superclasses;
 use axioms::Memory;
@@ -28,6 +28,11 @@ pub struct Groups<'a> {
     /// The set of these.
     leading: EpochSet,
     marks: Marks,
+    /// Lists that are filled anew for each class and each individual.
+    numbers: Vec<u32>,
+    ordered: Vec<u32>,
+    found: Vec<u32>,
+    named: Vec<(&'a str, usize)>,
 }
 
 // A value is let go by one call, where each way out would else let each field go.
@@ -40,6 +45,10 @@ impl Drop for Groups<'_> {
             leaders: _,
             leading: _,
             marks: _,
+            numbers: _,
+            ordered: _,
+            found: _,
+            named: _,
         } = self;
     }
 }
@@ -85,7 +94,16 @@ impl Groups<'_> {
             leaders,
             leading,
             marks,
+            numbers: Vec::new(alloc),
+            ordered: Vec::new(alloc),
+            found: Vec::new(alloc),
+            named: Vec::new(alloc),
         })
+    }
+
+    /// The allocator of the lists.
+    pub(crate) fn allocator(&self) -> Global {
+        self.alloc
     }
 
     /// The names of the classes.
@@ -114,9 +132,22 @@ impl Groups<'_> {
     pub fn members(&self, g: usize) -> Result<Vec<usize>, Memory>
         ensures { IfOk result (λ v. v.items ≡ group (lies_below self.now.rows) (in_byte_order self.now.names) g) }
     {
-        let same = as_large(self.alloc, self.classes, g)?;
-        let members = sorted_by_name(self.alloc, self.names, &same)?;
+        let mut same = Vec::new(self.alloc);
+        let mut named = Vec::new(self.alloc);
+        let mut members = Vec::new(self.alloc);
+        put_as_large(&mut same, self.classes, g)?;
+        put_sorted_by_name(&mut members, &mut named, self.names, &same)?;
         Ok(members)
+    }
+
+    /// Puts the classes of a class's group, in byte order, in place of the numbers.
+    pub(crate) fn put_members(&mut self, members: &mut Vec<usize>, g: usize) -> Result<(), Memory>
+        ensures same { self.new ≡ self.old }
+        ensures members { OnOk result (members.new.items ≡ group (lies_below self.old.rows) (in_byte_order self.old.names) g) }
+    {
+        put_as_large(&mut self.numbers, self.classes, g)?;
+        put_sorted_by_name(members, &mut self.named, self.names, &self.numbers)?;
+        Ok(())
     }
 
     /// Whether the two classes are in one group.
@@ -138,11 +169,34 @@ impl Groups<'_> {
             ≡ filter (is_directly_above (lies_below self.old.rows) (length self.old.names) g)
             (groups (lies_below self.old.rows) (in_byte_order self.old.names))) }
     {
-        let higher = larger(self.alloc, self.classes, g)?;
-        let direct = least_of(self.alloc, &mut self.marks, self.classes, &higher)?;
-        let shown = held(self.alloc, &self.leading, &direct)?;
-        let above = sorted_by_name(self.alloc, self.names, &shown)?;
+        let mut above = Vec::new(self.alloc);
+        self.put_directly_above(&mut above, g)?;
         Ok(above)
+    }
+
+    /// Puts the classes that stand for the groups directly above a class, in byte order, in place of the numbers.
+    pub(crate) fn put_directly_above(
+        &mut self,
+        above: &mut Vec<usize>,
+        g: usize,
+    ) -> Result<(), Memory>
+        ensures same { self.new ≡ self.old }
+        ensures above { OnOk result
+            (above.new.items
+            ≡ filter (is_directly_above (lies_below self.old.rows) (length self.old.names) g)
+            (groups (lies_below self.old.rows) (in_byte_order self.old.names))) }
+    {
+        put_larger(&mut self.numbers, self.classes, g)?;
+        put_least(
+            &mut self.found,
+            &mut self.ordered,
+            &mut self.marks,
+            self.classes,
+            &self.leading,
+            &self.numbers,
+        )?;
+        put_sorted_by_name(above, &mut self.named, self.names, &self.found)?;
+        Ok(())
     }
 
     /// The classes that stand for the least groups of these classes, in byte order.
@@ -154,10 +208,26 @@ impl Groups<'_> {
         ensures same { self.new ≡ self.old }
         ensures least { IfOk result (λ v. v.items ≡ least_groups self.old.names (lies_below self.old.rows) (is_among types.now)) }
     {
-        let least = least_of(self.alloc, &mut self.marks, self.classes, types)?;
-        let shown = held(self.alloc, &self.leading, &least)?;
-        let once = once_of(self.alloc, &mut self.marks.above, &shown)?;
-        let groups = sorted_by_name(self.alloc, self.names, &once)?;
-        Ok(groups)
+        let mut least = Vec::new(self.alloc);
+        self.put_least(&mut least, types)?;
+        Ok(least)
+    }
+
+    /// Puts the classes that stand for the least groups of these classes, in byte order, in place of the numbers.
+    pub(crate) fn put_least(&mut self, least: &mut Vec<usize>, types: &[u32]) -> Result<(), Memory>
+        ensures same { self.new ≡ self.old }
+        ensures least { OnOk result (least.new.items ≡ least_groups self.old.names (lies_below self.old.rows) (is_among types.now)) }
+    {
+        put_least(
+            &mut self.found,
+            &mut self.ordered,
+            &mut self.marks,
+            self.classes,
+            &self.leading,
+            types,
+        )?;
+        put_once(&mut self.numbers, &mut self.marks.above, &self.found)?;
+        put_sorted_by_name(least, &mut self.named, self.names, &self.numbers)?;
+        Ok(())
     }
 }

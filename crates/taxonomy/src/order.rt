@@ -1,7 +1,7 @@
 //! Class numbers in the byte order of the names.
 ghost use Rattle.taxonomy.specs.Texts.{by_name, in_byte_order, sorted};
 ghost use Rattle.std.specs.List.{All, range_with_len};
-ghost use Rattle.std.specs.Prelude.{◌≡◌, IfOk, map, length};
+ghost use Rattle.std.specs.Prelude.{◌≡◌, IfOk, OnOk, map, length};
 ghost use Rattle.std.specs.String.{string_bytes};
 ghost use Rattle.axioms.specs.Ontology.{name_at};
 
@@ -22,22 +22,32 @@ fn numbered(alloc: Global, names: &[String]) -> Result<Vec<(&str, usize)>, Memor
     Ok(pairs)
 }
 
-/// These numbers, each behind its name.
-fn named<'a>(
-    alloc: Global,
+/// Puts these numbers, each behind its name, in place of the pairs.
+fn put_named<'a>(
+    pairs: &mut Vec<(&'a str, usize)>,
     names: &'a [String],
     numbers: &[u32],
-) -> Result<Vec<(&'a str, usize)>, Memory>
-    ensures { IfOk result
-        (λ v. (map (λ p. p.1) v.items ≡ numbers.now)
-        × All (λ p. p.0.now ≡ name_at (map string_bytes names.now) p.1) v.items) }
+) -> Result<(), Memory>
+    ensures numbers { OnOk result (map (λ p. p.1) pairs.new.items ≡ numbers.now) }
+    ensures names { OnOk result (All (λ p. p.0.now ≡ name_at (map string_bytes names.now) p.1) pairs.new.items) }
 {
-    let mut pairs = Vec::with_capacity(alloc, numbers.len())?;
+    pairs.clear();
     for n in numbers {
         let n = *n as usize;
         pairs.push((name_of(names, n), n))?;
     }
-    Ok(pairs)
+    Ok(())
+}
+
+/// Puts the numbers of the pairs in place of the numbers.
+fn put_numbers(numbers: &mut Vec<usize>, pairs: &[(&str, usize)]) -> Result<(), Memory>
+    ensures { OnOk result (numbers.new.items ≡ map (λ p. p.1) pairs.now) }
+{
+    numbers.clear();
+    for pair in pairs {
+        numbers.push(pair.1)?;
+    }
+    Ok(())
 }
 
 fn numbers(alloc: Global, pairs: &[(&str, usize)]) -> Result<Vec<usize>, Memory>
@@ -59,15 +69,16 @@ pub fn in_byte_order(alloc: Global, names: &[String]) -> Result<Vec<usize>, Memo
     numbers(alloc, &pairs)
 }
 
-/// These class numbers, in the byte order of their names.
-pub(crate) fn sorted_by_name(
-    alloc: Global,
-    names: &[String],
+/// Puts these class numbers, in the byte order of their names, in place of those that stand there. The pairs are room for this.
+pub(crate) fn put_sorted_by_name<'a>(
+    ordered: &mut Vec<usize>,
+    pairs: &mut Vec<(&'a str, usize)>,
+    names: &'a [String],
     numbers: &[u32],
-) -> Result<Vec<usize>, Memory>
-    ensures { IfOk result (λ v. v.items ≡ sorted (by_name (map string_bytes names.now)) numbers.now) }
+) -> Result<(), Memory>
+    ensures { OnOk result (ordered.new.items ≡ sorted (by_name (map string_bytes names.now)) numbers.now) }
 {
-    let mut pairs = named(alloc, names, numbers)?;
-    pairs.sort()?;
-    crate::order::numbers(alloc, &pairs)
+    put_named(pairs, names, numbers)?;
+    pairs.sort_unstable();
+    put_numbers(ordered, pairs)
 }

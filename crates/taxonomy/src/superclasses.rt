@@ -1,7 +1,8 @@
 //! The superclasses of each class, as lists.
 ghost use Rattle.number_sets.specs.Pieces.{list_at};
-ghost use Rattle.std.specs.Prelude.{◌≡◌, IfOk, length};
+ghost use Rattle.std.specs.Prelude.{◌≡◌, IfOk, length, map};
 ghost use Rattle.taxonomy.specs.Relation.{is_listed};
+ghost use Rattle.taxonomy.specs.Superclasses.{filled};
 ghost use Rattle.taxonomy.specs.Texts.{is_same, is_strictly_above};
 
 use axioms::Memory;
@@ -18,17 +19,47 @@ pub(crate) struct Superclasses {
     pub(crate) apart: Row,
     /// All classes, ascending.
     pub(crate) all: Vec<u32>,
+    /// How many superclasses each class has.
+    pub(crate) sizes: Vec<usize>,
 }
 
 impl Model for Superclasses {
     ghost use Rattle.std.specs.Prelude.{List, length, ℕ};
-    ghost use Rattle.taxonomy.specs.Superclasses.{HasAll, filled};
+    ghost use Rattle.taxonomy.specs.Superclasses.{AreWhole, filled};
 
     ghost Value = { List (List ℕ) };
 
     ghost view = { λ s. filled (length s.lists) s.apart s.lists };
 
-    ghost invariant = { λ s. HasAll (length s.lists) s.apart s.all.items };
+    ghost invariant = { λ s. AreWhole s.lists s.apart s.all.items s.sizes.items };
+}
+
+/// How many superclasses the class of that number has, by these lists and by those that are kept apart.
+fn size_at(lists: &PackedLists, apart: &Row, c: usize) -> usize
+    requires { length apart.now ≡ length lists.now }
+    ensures { result ≡ length (list_at (filled (length lists.now) apart.now lists.now) c) }
+{
+    if apart.contains(c) {
+        lists.len()
+    } else {
+        lists.len_at(c)
+    }
+}
+
+/// How many superclasses each class has, by these lists and by those that are kept apart.
+pub(crate) fn sizes_of(
+    alloc: Global,
+    lists: &PackedLists,
+    apart: &Row,
+) -> Result<Vec<usize>, Memory>
+    requires { length apart.now ≡ length lists.now }
+    ensures { IfOk result (λ v. v.items ≡ map length (filled (length lists.now) apart.now lists.now)) }
+{
+    let mut sizes = Vec::with_capacity(alloc, lists.len())?;
+    for c in 0..lists.len() {
+        sizes.push(size_at(lists, apart, c))?;
+    }
+    Ok(sizes)
 }
 
 /// The same lists.
@@ -65,10 +96,9 @@ impl Superclasses {
     pub(crate) fn len_at(&self, c: usize) -> usize
         ensures { result ≡ length (list_at self.now c) }
     {
-        if self.apart.contains(c) {
-            self.lists.len()
-        } else {
-            self.lists.len_at(c)
+        match self.sizes.get(c) {
+            Some(size) => *size,
+            None => 0,
         }
     }
 
@@ -80,6 +110,7 @@ impl Superclasses {
             lists: copy_of(alloc, &self.lists)?,
             apart: self.apart.copy(alloc)?,
             all: self.all.as_slice().to_vec(alloc)?,
+            sizes: self.sizes.as_slice().to_vec(alloc)?,
         })
     }
 

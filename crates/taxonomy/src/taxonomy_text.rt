@@ -28,16 +28,22 @@ fn write_line(
     Ok(())
 }
 
-/// Adds the line of a class's group.
-fn write_group(out: &mut Vec<u8>, groups: &mut Groups, g: usize) -> Result<(), Memory>
+/// Adds the line of a class's group. The two lists are room for this.
+fn write_group(
+    out: &mut Vec<u8>,
+    groups: &mut Groups,
+    members: &mut Vec<usize>,
+    above: &mut Vec<usize>,
+    g: usize,
+) -> Result<(), Memory>
     ensures same { groups.new ≡ groups.old }
     ensures line { OnOk result
         (out.new.items
         ≡ out.old.items ++ group_line groups.old.names (lies_below groups.old.rows) (in_byte_order groups.old.names) g) }
 {
-    let members = groups.members(g)?;
-    let above = groups.directly_above(g)?;
-    write_line(out, groups.names(), &members, &above)
+    groups.put_members(members, g)?;
+    groups.put_directly_above(above, g)?;
+    write_line(out, groups.names(), members, above)
 }
 
 /// Adds the lines of the groups but that of owl:Nothing.
@@ -50,9 +56,11 @@ fn write_groups(out: &mut Vec<u8>, groups: &mut Groups) -> Result<(), Memory>
         (filter (is_no_bottom (lies_below groups.old.rows)) (texts.groups (lies_below groups.old.rows) (in_byte_order groups.old.names)))) }
 {
     let firsts = groups.firsts()?;
+    let mut members = Vec::new(groups.allocator());
+    let mut above = Vec::new(groups.allocator());
     for g in &firsts {
         if !groups.is_same(*g, ClassId::NOTHING.0 as usize) {
-            write_group(out, groups, *g)?;
+            write_group(out, groups, &mut members, &mut above, *g)?;
         }
     }
     Ok(())

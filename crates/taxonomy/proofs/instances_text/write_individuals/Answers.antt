@@ -22,8 +22,8 @@ loop-a-preserved c =
     let out = c.loop-a.out.items in
     let rest = flat_map line (drop (i + 1) order) in
     let step : flat_map line (drop i order) ≡ line a ++ rest = at_drop_more (flat_map line) order i 0 c.loop-a-test.true in
-    let same : c.least.new.self ≡ grouped = c.least.ensures.same ∙ c.loop-a.invariant.same in
-    let found = c.in_ok-least.ensures.least
+    let same : c.put_least.new.self ≡ grouped = c.put_least.ensures.same ∙ c.loop-a.invariant.same in
+    let found = c.in_ok-put_least.ensures.least
     ∙ ap (λ (g : Grouped). least_groups g.names (lies_below g.rows) (is_among c.at.result.now)) c.loop-a.invariant.same
     ∙ ap (λ ts. least_groups names r (is_among ts)) c.at.ensures in
     let written : c.write_line.new.out.items ≡ out ++ line a =

@@ -12,7 +12,7 @@ returns c =
     let names = map string_bytes c.self.inside.names.now in
     let kept = c.self.invariant in
     rw (← c.self.view_is)
-    (c.in_ok-members.ensures
+    (c.in_ok-put_sorted_by_name.ensures
     ∙ ap (sorted (by_name names)) c.deref.ensures.value
-    ∙ group_placed lists kept.superclasses names kept.long c.args.g c.in_ok-same.same.items c.in_ok-same.ensures
+    ∙ group_placed lists kept.superclasses names kept.long c.args.g c.put_as_large.new.numbers.items c.in_ok-put_as_large.ensures
     ∙ ap (λ r. group r (in_byte_order names) c.args.g) (sym (told_as lists (rows_of lists) kept.superclasses.sets refl)))

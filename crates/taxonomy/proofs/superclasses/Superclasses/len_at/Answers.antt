@@ -1,20 +1,14 @@
-use Rattle.std.proofs.Common.{length, cond, sym, ap, ◌∙◌}
-use Rattle.number_sets.specs.Pieces.{list_at}
-use Rattle.taxonomy.specs.Texts.{numbers_below}
-use Rattle.taxonomy.proofs.Filled.{apart_at}
-use Rattle.taxonomy.proofs.Told.{length-numbers}
+use Rattle.std.proofs.Common.{length, sym, ◌∙◌}
+use Rattle.taxonomy.specs.Superclasses.{filled}
+use Rattle.taxonomy.proofs.Filled.{size_found, size_beyond}
 use Rattle.taxonomy.proofs.superclasses.Superclasses.len_at.Goals as goal
 
-pub returns-then-contains : goal.returns-then-contains
-returns-then-contains c =
+pub returns-in-Some : goal.returns-in-Some
+returns-in-Some c =
     let parts = c.self.inside in
-    let n = length parts.lists in
-    c.len.ensures ∙ sym (length-numbers n)
-    ∙ sym (ap length (apart_at n parts.apart parts.lists c.args.self.now c.args.c c.contains.result c.self.invariant.long (sym c.self.view_is) c.contains.ensures ∙ ap (λ b. cond b (numbers_below n) (list_at parts.lists c.args.c)) c.if-contains.true))
+    size_found (filled (length parts.lists) parts.apart parts.lists) c.args.self.now c.deref.result.now c.args.c _ (sym c.self.view_is) (c.deref.ensures.value ∙ c.self.invariant.sized) c.in-Some.ensures.lookup.0 c.in-Some.ensures.lookup.1
 
-pub returns-else-contains : goal.returns-else-contains
-returns-else-contains c =
+pub returns-in-None : goal.returns-in-None
+returns-in-None c =
     let parts = c.self.inside in
-    let n = length parts.lists in
-    c.len_at.ensures
-    ∙ sym (ap length (apart_at n parts.apart parts.lists c.args.self.now c.args.c c.contains.result c.self.invariant.long (sym c.self.view_is) c.contains.ensures ∙ ap (λ b. cond b (numbers_below n) (list_at parts.lists c.args.c)) c.if-contains.false))
+    size_beyond (filled (length parts.lists) parts.apart parts.lists) c.args.self.now c.deref.result.now c.args.c (sym c.self.view_is) (c.deref.ensures.value ∙ c.self.invariant.sized) c.in-None.ensures.lookup.0

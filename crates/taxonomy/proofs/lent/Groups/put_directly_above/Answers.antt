@@ -7,7 +7,7 @@ use Rattle.taxonomy.specs.Superclasses.{rows_of}
 use Rattle.taxonomy.specs.Texts.{by_name, groups, in_byte_order, is_directly_above, is_strictly_above, sorted}
 use Rattle.taxonomy.proofs.Arranged.{above_placed}
 use Rattle.taxonomy.proofs.Told.{told_as}
-use Rattle.taxonomy.proofs.lent.Groups.directly_above.Goals as goal
+use Rattle.taxonomy.proofs.lent.Groups.put_directly_above.Goals as goal
 
 pub returns-clause-above : goal.returns-clause-above
 returns-clause-above c =
@@ -15,12 +15,13 @@ returns-clause-above c =
     let names = map string_bytes c.self.inside.names.now in
     let leading = c.self.inside.leading in
     let kept = c.self.invariant in
+    let higher = c.put_larger.new.numbers.items in
     rw (← c.self.view_is)
-    (c.in_ok-above.ensures
-    ∙ ap (sorted (by_name names)) c.deref-3.ensures.value
+    (c.in_ok-put_sorted_by_name.ensures
+    ∙ ap (sorted (by_name names)) c.deref-2.ensures.value
     ∙ above_placed lists kept.superclasses names kept.long leading kept.leads c.args.g
-    c.in_ok-higher.higher.items c.in_ok-direct.direct.items c.in_ok-shown.shown.items c.in_ok-higher.ensures
-    (c.in_ok-direct.ensures.least ∙ ap (λ ks. filter (λ g. not (list_any (λ k. is_strictly_above (is_listed lists) k g) ks)) ks) c.deref.ensures.value)
-    (c.in_ok-shown.ensures ∙ ap (filter (has leading)) c.deref-2.ensures.value)
+    higher (filter (λ g. not (list_any (λ k. is_strictly_above (is_listed lists) k g) higher)) higher) c.put_least.new.found.items c.in_ok-put_larger.ensures
+    refl
+    (c.in_ok-put_least.ensures.least ∙ ap (λ ks. filter (has leading) (filter (λ g. not (list_any (λ k. is_strictly_above (is_listed lists) k g) ks)) ks)) c.deref.ensures.value)
     ∙ ap (λ n. filter (is_directly_above (is_listed lists) n c.args.g) (groups (is_listed lists) (in_byte_order names))) (sym kept.long)
     ∙ ap (λ r. filter (is_directly_above r (length names) c.args.g) (groups r (in_byte_order names))) (sym (told_as lists (rows_of lists) kept.superclasses.sets refl)))

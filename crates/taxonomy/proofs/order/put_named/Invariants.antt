@@ -2,7 +2,7 @@ use Rattle.std.proofs.Common.{◌≡◌, map, take}
 use Rattle.std.specs.List.{All}
 use Rattle.std.specs.String.{string_bytes}
 use Rattle.axioms.specs.Ontology.{name_at}
-use Rattle.taxonomy.proofs.order.named.Given as goal
+use Rattle.taxonomy.proofs.order.put_named.Given as goal
 
 abbrev pub invariant-loop-n : goal.invariant-loop-n
 invariant-loop-n l = record {

@@ -2,8 +2,8 @@ use Rattle.std.proofs.Common.{◌≡◌, ◌+◌, ◌&&◌, ◌||◌, ℕ, ltb, 
 use Rattle.std.proofs.lemmas.List.Folds.{list_any_more}
 use Rattle.taxonomy.specs.Superclasses.{is_among}
 use Rattle.taxonomy.proofs.Once.{HasFound, found_more, found_same}
-use Rattle.taxonomy.proofs.collecting.once_of.Goals as goal
-use Rattle.taxonomy.proofs.collecting.once_of.Goals.{then-put_new+in_ok-push, else-put_new}
+use Rattle.taxonomy.proofs.collecting.put_once.Goals as goal
+use Rattle.taxonomy.proofs.collecting.put_once.Goals.{then-put_new+in_ok-push, else-put_new}
 
 pub loop-d-preserved : goal.loop-d-preserved
 loop-d-preserved c =

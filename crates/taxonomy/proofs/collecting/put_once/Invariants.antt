@@ -1,7 +1,7 @@
 use Rattle.std.proofs.Common.{◌≡◌, ℕ, ◌&&◌, ltb, length, take}
 use Rattle.number_sets.specs.Members.{has}
 use Rattle.taxonomy.specs.Superclasses.{is_among, AreOnce}
-use Rattle.taxonomy.proofs.collecting.once_of.Given as goal
+use Rattle.taxonomy.proofs.collecting.put_once.Given as goal
 
 abbrev pub invariant-loop-d : goal.invariant-loop-d
 invariant-loop-d l = record {
