@@ -50,6 +50,8 @@ mod ontologies;
 #[cfg(test)]
 mod orders;
 #[cfg(test)]
+mod owned_facts;
+#[cfg(test)]
 mod paths;
 #[cfg(test)]
 mod problems;

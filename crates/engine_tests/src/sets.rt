@@ -1,7 +1,7 @@
 //! Sets and lists of a few numbers, worked out by hand.
 ghost use Rattle.std.specs.Prelude.{◌<◌, ◌≡◌, ◌∷◌, [], IfOk, OnOk, length};
 
-use number_sets::{EpochSet, NumberSearch, OpenLists, PackedLists, sort_ascending, turned};
+use number_sets::{EpochSet, NumberSearch, OpenLists, PackedLists, sort_ascending};
 use std::alloc::{AllocError, Global};
 use std::test::Fail;
 
@@ -131,31 +131,6 @@ fn lengths_by_number(rt: HostRuntime) -> Result<(), Fail> {
 #[test]
 fn no_lists(rt: HostRuntime) {
     assert!(rt; are_lists(&PackedLists::new(rt.alloc()), &[]));
-}
-
-/// The numbers of the three lists in which each number below 8 stands.
-const TURNED: &[&[u32]] = &[&[], &[], &[], &[], &[], &[0, 2], &[], &[0]];
-
-/// Whether the three lists, turned around below the bound, are those below it.
-fn are_turned(alloc: Global, bound: usize) -> Result<bool, AllocError> {
-    let lists = three_lists(alloc)?;
-    let turned = turned(alloc, &lists, bound)?;
-    Ok(
-        are_lists(&turned, &TURNED[..bound.min(TURNED.len())])
-            && turned.at(bound.saturating_add(1)).is_empty(),
-    )
-}
-
-#[test]
-fn lists_turned_around(rt: HostRuntime) -> Result<(), Fail> {
-    assert!(rt; are_turned(rt.alloc(), 8)?);
-    Ok(())
-}
-
-#[test]
-fn numbers_past_the_bound_left_out(rt: HostRuntime) -> Result<(), Fail> {
-    assert!(rt; are_turned(rt.alloc(), 6)?);
-    Ok(())
 }
 
 /// Adds to two lists, of which the second is not there.

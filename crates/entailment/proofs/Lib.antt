@@ -6,4 +6,8 @@ pub mod Asking
 pub mod Building
 pub mod Members
 pub mod Listing
+pub mod Saying
+pub mod Going
+pub mod Telling
+pub mod Counting
 pub mod Stated

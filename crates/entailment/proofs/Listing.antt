@@ -1,42 +1,37 @@
--- What axioms about lists say, by two members.
-use Rattle.std.proofs.Common.{◌≡◌, ◌↔◌, ℕ, zero, suc, ◌+◌, ◌<◌, List, [], ◌∷◌, Bool, true, All, AllPairs, Result, Ok, Err, IfOk, length, map, get_or, slice_get, Some, take, refl, sym, ap, ◌∙◌, subst, subst₂, arith}
-use Rattle.std.proofs.lemmas.List.{get_or-map, length-map, map-append}
-use Rattle.std.proofs.lemmas.List.Elements.{All-append, All-cons, All-nil}
+-- What axioms about lists say of two members, and what is told of parts.
+use Rattle.std.proofs.Common.{◌≡◌, ◌↔◌, ℕ, zero, suc, ◌+◌, ◌<◌, List, [], ◌∷◌, Bool, true, All, Result, Ok, Err, IfErr, IfOk, OnOk, length, map, get_or, slice_get, Some, refl, sym, ap, ◌∙◌, subst, subst₂, arith}
+use Rattle.std.proofs.lemmas.List.{get_or-map, length-map}
+use Rattle.std.proofs.lemmas.List.Elements.{All-cons, All-nil}
 use Rattle.std.proofs.lemmas.Option.{none-some, same_Some, slice_get-get_or}
-use Rattle.axioms.specs.Ontology.{Ontology, Axiom, EquivalentClasses, DisjointClasses, EquivalentProperties, SameIndividuals, DifferentIndividuals, SubClass, SubProperty, Domain, Transitive, Reflexive, ClassAssertion, PropertyAssertion, NegativePropertyAssertion, axiom_tree, axiom_trees, expression, individual_name, property_name}
+use Rattle.axioms.specs.Ontology.{Ontology, Axiom, EquivalentClasses, DisjointClasses, EquivalentProperties, SameIndividuals, DifferentIndividuals, SubClass, SubProperty, Domain, Transitive, Reflexive, ClassAssertion, PropertyAssertion, NegativePropertyAssertion}
 use Rattle.axioms.specs.WellFormedness.{AreOperands}
-use Rattle.entailment.specs.Entailment.{Follows}
-use Rattle.entailment.specs.Pairs.{IsPairEntailed, member_count}
-use Rattle.interpretation_spec.specs.Interpretation.{IsApart, IsOtherElement, IsSame, IsSameElement, IsSameProperty}
+use Rattle.entailment.specs.Parts.{parts_of, parts_of_list}
+use Rattle.entailment.specs.Testers.{AreFewInTests, IsFollowing, IsTold, IsUntold}
+use Rattle.entailment.specs.declared.fault.TestFault.{TestFault}
 use Rattle.lemmas.proofs.Mapped.{mapped}
-use Rattle.lemmas.proofs.Pairs.{AllPairs-from_map}
-use Rattle.lemmas.proofs.Places.{take_push}
 
 -- ---- what is told
 
--- what tells of the one tells of what is the same
-pub told_of : {E : Type 0} (r : Result Bool E) (P Q : Type 0) → P ↔ Q → IfOk r (λ b. (b ≡ true) ↔ P) → IfOk r (λ b. (b ≡ true) ↔ Q)
-told_of (Ok b) P Q same told = (λ t. same.0 (told.0 t), λ q. told.1 (same.1 q))
-told_of (Err e) P Q same told = tt
-
--- where the first holds, what tells of the second tells of both
-pub told_of_both : {E : Type 0} (r : Result Bool E) (P Q : Type 0) → P → IfOk r (λ b. (b ≡ true) ↔ Q) → IfOk r (λ b. (b ≡ true) ↔ (P × Q))
-told_of_both r P Q p told = told_of r Q (P × Q) (λ q. (p, q), λ both. both.1) told
-
 -- what tells of the one tells of each that is the same
-pub told_of_each : {E X : Type 0} (r : Result Bool E) (P : Type 0) (W Q : X → Type 0) → ((x : X) → W x → P ↔ Q x) → IfOk r (λ b. (b ≡ true) ↔ P) → IfOk r (λ b. (x : X) → W x → (b ≡ true) ↔ Q x)
-told_of_each (Ok b) P W Q same told = λ x h. (λ t. (same x h).0 (told.0 t), λ q. told.1 ((same x h).1 q))
-told_of_each (Err e) P W Q same told = tt
+pub told_of_each : {X : Type 0} (o : Ontology) (parts : List Axiom) (n : ℕ) (r : Result Bool TestFault) (W Q : X → Type 0) → ((x : X) → W x → All (IsFollowing o) parts ↔ Q x) → IsTold o parts n r → IfOk r (λ b. (x : X) → W x → (b ≡ true) ↔ Q x)
+told_of_each o parts n (Ok b) W Q same told = λ x h. (λ t. (same x h).0 (told.0.0 t), λ q. told.0.1 ((same x h).1 q))
+told_of_each o parts n (Err fault) W Q same told = tt
 
--- ---- one after the other
+-- the tests were within the limit
+pub told_within : (o : Ontology) (parts : List Axiom) (n : ℕ) (r : Result Bool TestFault) → IsTold o parts n r → OnOk r (AreFewInTests o parts n)
+told_within o parts n (Ok b) told = told.1
+told_within o parts n (Err fault) told = tt
+
+-- or one was not
+pub told_fault : (o : Ontology) (parts : List Axiom) (n : ℕ) (r : Result Bool TestFault) → IsTold o parts n r → IfErr r (IsUntold o parts n)
+told_fault o parts n (Ok b) told = tt
+told_fault o parts n (Err fault) told = told
+
+-- ---- at a place
 
 module _ {X Y : Type 0} (P : Y → Type 0) (f : X → Y) (xs : List X) (k : ℕ) (x : X) (at : slice_get xs k ≡ Some x) where
   pub one_at : All P (map f xs) → P (f x)
   one_at all = mapped P f xs all k x at
-
-  pub all_pushed : All P (map f (take k xs)) → P (f x) → All P (map f (take (k + 1) xs))
-  all_pushed all here =
-      subst (All P) (sym (ap (map f) (take_push xs k x at) ∙ map-append f (take k xs) (x ∷ []))) (All-append P (map f (take k xs)) (f x ∷ []) all (All-cons P (f x) [] here (All-nil P)))
 
 -- ---- members by number
 
@@ -92,18 +87,7 @@ module _ {X : Type 0} (f : X → ℕ) (xs ys : List X) (same : xs ≡ ys) (d : X
   pub lent_pair : (R : ℕ → ℕ → Type 0) → R (f (get_or xs m d)) (f (get_or xs n d)) ↔ R (get_or (map f ys) m 0) (get_or (map f ys) n 0)
   lent_pair R = subst (λ (zs : List X). R (f (get_or zs m d)) (f (get_or zs n d)) ↔ R (get_or (map f ys) m 0) (get_or (map f ys) n 0)) (sym same) (moved_pair f ys d R m n order within)
 
--- ---- a list by two of its members
-
-abbrev EachPair : {B : Type 0} → (B → B → Type 0) → (ℕ → B) → List ℕ → Type 0
-EachPair R g xs = (n : ℕ) → n < length xs → (m : ℕ) → m < n → R (g (get_or xs m 0)) (g (get_or xs n 0))
-
-all_pairs : {B : Type 0} (R : B → B → Type 0) (g : ℕ → B) (xs : List ℕ) → EachPair R g xs → AllPairs R (map g xs)
-all_pairs R g xs h m n d l k =
-    let low : n < length xs = omega (arith, length-map xs g) in
-    subst₂ R (sym (get_or-map g xs m 0 d (omega arith))) (sym (get_or-map g xs n 0 d low)) (h n low m l)
-
-each_pair : {B : Type 0} (R : B → B → Type 0) (g : ℕ → B) (xs : List ℕ) → AllPairs R (map g xs) → EachPair R g xs
-each_pair R g xs h n low m l = AllPairs-from_map R g xs h m n 0 l low
+-- ---- axioms about lists
 
 -- the axiom is one about a list
 abbrev pub IsAboutList : Axiom → Type 0
@@ -114,33 +98,18 @@ IsAboutList (SameIndividuals xs) = Unit {0}
 IsAboutList (DifferentIndividuals xs) = Unit {0}
 IsAboutList axiom' = ⊥
 
--- it follows exactly where what it says of each two members follows
-pub list_says : (o : Ontology) (a : Axiom) → IsAboutList a → ((n : ℕ) → n < member_count a → (m : ℕ) → m < n → IsPairEntailed o a m n) ↔ Follows (axiom_trees o) (axiom_tree o a)
-list_says o (EquivalentClasses cs) is = (
-  λ h i k. all_pairs (IsSame i) (expression o) cs (λ n low m l. h n low m l i k),
-  λ h n low m l i k. each_pair (IsSame i) (expression o) cs (h i k) n low m l,
-)
-list_says o (DisjointClasses cs) is = (
-  λ h i k. all_pairs (IsApart i) (expression o) cs (λ n low m l. h n low m l i k),
-  λ h n low m l i k. each_pair (IsApart i) (expression o) cs (h i k) n low m l,
-)
-list_says o (EquivalentProperties rs) is = (
-  λ h i k. all_pairs (IsSameProperty i) (property_name o) rs (λ n low m l. h n low m l i k),
-  λ h n low m l i k. each_pair (IsSameProperty i) (property_name o) rs (h i k) n low m l,
-)
-list_says o (SameIndividuals xs) is = (
-  λ h i k. all_pairs (IsSameElement i) (individual_name o) xs (λ n low m l. h n low m l i k),
-  λ h n low m l i k. each_pair (IsSameElement i) (individual_name o) xs (h i k) n low m l,
-)
-list_says o (DifferentIndividuals xs) is = (
-  λ h i k. all_pairs (IsOtherElement i) (individual_name o) xs (λ n low m l. h n low m l i k),
-  λ h n low m l i k. each_pair (IsOtherElement i) (individual_name o) xs (h i k) n low m l,
-)
-list_says o (SubClass c d) is = absurd is
-list_says o (SubProperty chain s) is = absurd is
-list_says o (Domain r c) is = absurd is
-list_says o (Transitive r) is = absurd is
-list_says o (Reflexive r) is = absurd is
-list_says o (ClassAssertion c a) is = absurd is
-list_says o (PropertyAssertion r a b) is = absurd is
-list_says o (NegativePropertyAssertion r a b) is = absurd is
+-- it says what it says of each two members
+pub told_of_list : (o : Ontology) (n : ℕ) (a : Axiom) → IsAboutList a → (r : Result Bool TestFault) → IsTold o (parts_of_list a) n r → IsTold o (parts_of a) n r
+told_of_list o n (EquivalentClasses cs) is r told = told
+told_of_list o n (DisjointClasses cs) is r told = told
+told_of_list o n (EquivalentProperties rs) is r told = told
+told_of_list o n (SameIndividuals xs) is r told = told
+told_of_list o n (DifferentIndividuals xs) is r told = told
+told_of_list o n (SubClass c d) is r told = absurd is
+told_of_list o n (SubProperty chain s) is r told = absurd is
+told_of_list o n (Domain r c) is answer told = absurd is
+told_of_list o n (Transitive r) is answer told = absurd is
+told_of_list o n (Reflexive r) is answer told = absurd is
+told_of_list o n (ClassAssertion c a) is r told = absurd is
+told_of_list o n (PropertyAssertion r a b) is answer told = absurd is
+told_of_list o n (NegativePropertyAssertion r a b) is answer told = absurd is

@@ -1,7 +1,7 @@
 -- What axioms say of two or three things at a time.
 use Rattle.std.specs.Prelude.{ℕ, ◌<◌, ◌≤◌, ◌∷◌, [], length, map}
 use Rattle.std.specs.List.{All}
-use Rattle.axioms.specs.Ontology.{Ontology, axiom_trees, expression, individual_name, property_name}
+use Rattle.axioms.specs.Ontology.{Ontology, Axiom, DisjointClasses, SameIndividuals, DifferentIndividuals, SubClass, SubProperty, Domain, Reflexive, ClassAssertion, PropertyAssertion, NegativePropertyAssertion, axiom_trees, expression, individual_name, property_name}
 use Rattle.axioms.specs.View.{prop_numbers}
 use Rattle.axioms.specs.WellFormedness.{AreOperands}
 use Rattle.entailment.specs.declared.claim.Claim.{Claim}
@@ -20,6 +20,19 @@ Holds o i (Joined r a b) = HasPair i (property_name o r.0) (i.individual (indivi
 Holds o i (Unjoined r a b) = HasPair i (property_name o r.0) (i.individual (individual_name o a.0)) (i.individual (individual_name o b.0)) → ⊥
 Holds o i (One a b) = IsSameElement i (individual_name o a.0) (individual_name o b.0)
 Holds o i (Two a b) = IsOtherElement i (individual_name o a.0) (individual_name o b.0)
+
+-- the axiom that says it
+abbrev pub claimed : Claim → Axiom
+claimed (Below c d) = SubClass c.0 d.0
+claimed (Apart c d) = DisjointClasses (c.0 ∷ d.0 ∷ [])
+claimed (Sources r c) = Domain r.0 c.0
+claimed (Path rs s) = SubProperty (prop_numbers rs.now) s.0
+claimed (Loops r) = Reflexive r.0
+claimed (Member c a) = ClassAssertion c.0 a.0
+claimed (Joined r a b) = PropertyAssertion r.0 a.0 b.0
+claimed (Unjoined r a b) = NegativePropertyAssertion r.0 a.0 b.0
+claimed (One a b) = SameIndividuals (a.0 ∷ b.0 ∷ [])
+claimed (Two a b) = DifferentIndividuals (a.0 ∷ b.0 ∷ [])
 
 -- it holds in every finite interpretation of the axioms
 abbrev pub IsEntailed : Ontology → Claim → Type 0

@@ -1,5 +1,6 @@
 pub mod Entailment
 pub mod Claims
 pub mod Tests
+pub mod Parts
+pub mod FactCounts
 pub mod Testers
-pub mod Pairs

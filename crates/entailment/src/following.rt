@@ -1,16 +1,16 @@
 //! Whether axioms follow.
 ghost use Rattle.axioms.specs.Axiom as tree;
 ghost use Rattle.axioms.specs.Fronts.{Extends};
-ghost use Rattle.axioms.specs.Ontology.{axiom_tree, axiom_trees, expression, property_name};
+ghost use Rattle.axioms.specs.Ontology.{SubClass, SubProperty, axiom_trees};
 ghost use Rattle.axioms.specs.View.{axiom_of};
 ghost use Rattle.axioms.specs.WellFormedness.{IsAxiomOf};
 ghost use Rattle.engine.specs.Saturations.{IsFinished, IsSound, IsUnasked, as_ended};
-ghost use Rattle.entailment.specs.Claims.{IsClaimOf, IsEntailed};
-ghost use Rattle.entailment.specs.Entailment.{Entails, Follows};
-ghost use Rattle.entailment.specs.Pairs.{IsPairEntailed, member_count};
-ghost use Rattle.entailment.specs.Testers.{IsReady, IsUntold, with_axioms_of};
-ghost use Rattle.interpretation_spec.specs.Interpretation.{Interpretation, IsModel, IsSame, IsSameProperty};
-ghost use Rattle.std.specs.Prelude.{◌≡◌, ◌↔◌, ◌++◌, ◌<◌, All, IfErr, IfOk, List, length, map, true, ℕ};
+ghost use Rattle.entailment.specs.Claims.{IsClaimOf, claimed};
+ghost use Rattle.entailment.specs.Entailment.{Entails};
+ghost use Rattle.entailment.specs.Parts.{member_count, parts_at, parts_before, parts_of, parts_of_list};
+ghost use Rattle.entailment.specs.Testers.{IsReady, IsTold, IsUntoldFor, IsWithinLimit, with_axioms_of};
+ghost use Rattle.std.specs.List.{flat_map};
+ghost use Rattle.std.specs.Prelude.{◌≡◌, ◌↔◌, ◌++◌, ◌<◌, ◌∷◌, [], All, IfErr, IfOk, List, OnOk, drop, length, map, true};
 
 use crate::claim::Claim;
 use crate::fault::TestFault;
@@ -25,8 +25,7 @@ impl<'a> Tester<'a> {
         requires ready { IsReady self.now }
         requires first { IsClaimOf self.now.about.now first }
         requires second { IsClaimOf self.now.about.now second }
-        ensures exact { IfOk result (λ b. (b ≡ true) ↔ (IsEntailed self.now.about.now first.entry × IsEntailed self.now.about.now second.entry)) }
-        ensures fault { IfErr result (IsUntold self.now.about.now self.now.max_facts) }
+        ensures { IsTold self.now.about.now (claimed first.entry ∷ claimed second.entry ∷ []) self.now.max_facts result }
     {
         if self.claim_follows(first)? {
             self.claim_follows(second)
@@ -40,9 +39,7 @@ impl<'a> Tester<'a> {
         requires ready { IsReady self.now }
         requires first { first.0 < length self.now.about.now.nodes }
         requires second { second.0 < length self.now.about.now.nodes }
-        ensures exact { IfOk result (λ b. (b ≡ true) ↔
-            ((i : Interpretation) → IsModel i (axiom_trees self.now.about.now) → IsSame i (expression self.now.about.now first.0) (expression self.now.about.now second.0))) }
-        ensures fault { IfErr result (IsUntold self.now.about.now self.now.max_facts) }
+        ensures { IsTold self.now.about.now (SubClass first.0 second.0 ∷ SubClass second.0 first.0 ∷ []) self.now.max_facts result }
     {
         self.both_follow(Claim::Below(first, second), Claim::Below(second, first))
     }
@@ -52,9 +49,7 @@ impl<'a> Tester<'a> {
         requires ready { IsReady self.now }
         requires first { first.0 < length self.now.about.now.names.properties }
         requires second { second.0 < length self.now.about.now.names.properties }
-        ensures exact { IfOk result (λ b. (b ≡ true) ↔
-            ((i : Interpretation) → IsModel i (axiom_trees self.now.about.now) → IsSameProperty i (property_name self.now.about.now first.0) (property_name self.now.about.now second.0))) }
-        ensures fault { IfErr result (IsUntold self.now.about.now self.now.max_facts) }
+        ensures { IsTold self.now.about.now (SubProperty (first.0 ∷ []) second.0 ∷ SubProperty (second.0 ∷ []) first.0 ∷ []) self.now.max_facts result }
     {
         let (from_first, from_second) = ([first], [second]);
         self.both_follow(
@@ -69,8 +64,7 @@ impl<'a> Tester<'a> {
         requires there { IsAxiomOf self.now.about.now (axiom_of stated.now) }
         requires order { m < n }
         requires within { n < member_count (axiom_of stated.now) }
-        ensures exact { IfOk result (λ b. (b ≡ true) ↔ IsPairEntailed self.now.about.now (axiom_of stated.now) m n) }
-        ensures fault { IfErr result (IsUntold self.now.about.now self.now.max_facts) }
+        ensures { IsTold self.now.about.now (parts_at (axiom_of stated.now) m n) self.now.max_facts result }
     {
         match stated {
             Axiom::EquivalentClasses(classes) => {
@@ -102,8 +96,7 @@ impl<'a> Tester<'a> {
         requires ready { IsReady self.now }
         requires there { IsAxiomOf self.now.about.now (axiom_of stated.now) }
         requires within { n < member_count (axiom_of stated.now) }
-        ensures exact { IfOk result (λ b. (b ≡ true) ↔ ((m : ℕ) → m < n → IsPairEntailed self.now.about.now (axiom_of stated.now) m n)) }
-        ensures fault { IfErr result (IsUntold self.now.about.now self.now.max_facts) }
+        ensures { IsTold self.now.about.now (parts_before (axiom_of stated.now) n) self.now.max_facts result }
     {
         for m in 0..n {
             if !self.pair_follows(stated, m, n)? {
@@ -118,8 +111,7 @@ impl<'a> Tester<'a> {
         requires ready { IsReady self.now }
         requires there { IsAxiomOf self.now.about.now (axiom_of stated.now) }
         requires count { count ≡ member_count (axiom_of stated.now) }
-        ensures exact { IfOk result (λ b. (b ≡ true) ↔ ((n : ℕ) → n < member_count (axiom_of stated.now) → (m : ℕ) → m < n → IsPairEntailed self.now.about.now (axiom_of stated.now) m n)) }
-        ensures fault { IfErr result (IsUntold self.now.about.now self.now.max_facts) }
+        ensures { IsTold self.now.about.now (parts_of_list (axiom_of stated.now)) self.now.max_facts result }
     {
         for n in 0..count {
             if !self.member_follows(stated, n)? {
@@ -133,8 +125,7 @@ impl<'a> Tester<'a> {
     fn axiom_follows(&self, stated: &Axiom) -> Result<bool, TestFault>
         requires ready { IsReady self.now }
         requires there { IsAxiomOf self.now.about.now (axiom_of stated.now) }
-        ensures exact { IfOk result (λ b. (b ≡ true) ↔ Follows (axiom_trees self.now.about.now) (axiom_tree self.now.about.now (axiom_of stated.now))) }
-        ensures fault { IfErr result (IsUntold self.now.about.now self.now.max_facts) }
+        ensures { IsTold self.now.about.now (parts_of (axiom_of stated.now)) self.now.max_facts result }
     {
         match stated {
             Axiom::SubClass(sub, sup) => self.claim_follows(Claim::Below(*sub, *sup)),
@@ -170,9 +161,7 @@ impl<'a> Tester<'a> {
     fn all_follow(&self, axioms: &[Axiom]) -> Result<bool, TestFault>
         requires ready { IsReady self.now }
         requires axioms { All (IsAxiomOf self.now.about.now) (map axiom_of axioms.now) }
-        ensures exact { IfOk result (λ b. (b ≡ true) ↔
-            All (λ a. Follows (axiom_trees self.now.about.now) (axiom_tree self.now.about.now a)) (map axiom_of axioms.now)) }
-        ensures fault { IfErr result (IsUntold self.now.about.now self.now.max_facts) }
+        ensures { IsTold self.now.about.now (flat_map parts_of (map axiom_of axioms.now)) self.now.max_facts result }
     {
         for next in axioms {
             if !self.axiom_follows(next)? {
@@ -211,7 +200,7 @@ fn about(known: &Ontology, stated: &Ontology) -> Result<Ontology, Memory>
 /// The axioms that are stated behind the known ones.
 fn stated_more<'s>(known: &Ontology, stated: &'s Ontology) -> &'s [Axiom]
     requires { Extends known.now stated.now }
-    ensures { stated.now.axioms ≡ known.now.axioms ++ map axiom_of result.now }
+    ensures { map axiom_of result.now ≡ drop (length known.now.axioms) stated.now.axioms }
 {
     &stated.axioms()[known.axioms().len()..]
 }
@@ -220,10 +209,14 @@ fn stated_more<'s>(known: &Ontology, stated: &'s Ontology) -> &'s [Axiom]
 /// finite interpretation in which the known axioms hold. Names that the stated one has more may mean anything. The saturation is the
 /// known ontology's, run to its end, with nothing asked about; it stays as it is.
 ///
+/// What the axioms say is tested one thing after the other, up to the first that does not follow. An answer is told only where the
+/// closure of each test that was made has at most `max_facts` facts.
+///
 /// # Errors
 ///
-/// `Limit` where the closure of a test has more facts than `max_facts`; `TooManyNames` where with the individuals of a test there would be more than
-/// 1,000,000; `Memory` where memory was refused, or there would be 2^32 forms or facts or 2^32 - 1 fresh names of a kind.
+/// `Limit` where the closure of such a test has more facts than `max_facts`; `TooManyNames` where with the individuals of one there
+/// would be more than 1,000,000; `Memory` where memory was refused, or there would be 2^32 forms or facts or 2^32 - 1 fresh names of a
+/// kind.
 pub fn entails(
     alloc: Global,
     saturation: &Saturation,
@@ -237,7 +230,8 @@ pub fn entails(
     requires extends { Extends known.now stated.now }
     ensures exact { IfOk result (λ b. (others : List tree.Axiom) → axiom_trees stated.now ≡ axiom_trees known.now ++ others →
         (b ≡ true) ↔ Entails (axiom_trees known.now) others) }
-    ensures fault { IfErr result (IsUntold (with_axioms_of known.now stated.now) max_facts) }
+    ensures within { OnOk result (IsWithinLimit known.now stated.now max_facts) }
+    ensures fault { IfErr result (IsUntoldFor known.now stated.now max_facts) }
 {
     known.well_formed();
     stated.well_formed();

@@ -2,13 +2,14 @@
 ghost use Rattle.closure.specs.Closure.{Expression, IsRoot};
 ghost use Rattle.axioms.specs.Ontology.{axiom_trees, expression, individual_name};
 ghost use Rattle.engine.specs.Saturations.{HasMoreFactsThan, IsFinished, IsSaturated, IsSound, IsUnasked, as_ended};
-ghost use Rattle.entailment.specs.Claims.{IsClaimOf, IsEntailed};
-ghost use Rattle.entailment.specs.Testers.{IsReady, IsUntold, puts};
+ghost use Rattle.entailment.specs.Claims.{IsClaimOf, claimed};
+ghost use Rattle.entailment.specs.FactCounts.{HasNoMoreFactsThan};
+ghost use Rattle.entailment.specs.Testers.{IsReady, IsTold, puts};
 ghost use Rattle.inference.specs.declared.known_facts.Stop.TheVariants as stops;
 ghost use Rattle.interpretation_spec.specs.Interpretation.{IsMember};
 ghost use Rattle.normalise.specs.Growth.{Grows};
 ghost use Rattle.normalise.specs.Roots.{KeepsNames};
-ghost use Rattle.std.specs.Prelude.{◌≡◌, ◌↔◌, ◌<◌, ◌≤◌, ◌∷◌, [], Contains, Err, IfErr, IfOk, IsTrue, length, true};
+ghost use Rattle.std.specs.Prelude.{◌≡◌, ◌↔◌, ◌<◌, ◌≤◌, ◌∷◌, [], Contains, Err, IfOk, IsTrue, OnOk, length, true};
 
 use crate::claim::Claim;
 use crate::fault::TestFault;
@@ -44,6 +45,7 @@ pub fn saturated_with(
     ensures saturated { IfOk result (λ s. IsSaturated new.now (as_ended s)) }
     ensures asked { IfOk result (λ s. s.normal.asked ≡ expr.0 ∷ []) }
     ensures within { IfOk result (λ s. length s.state.facts ≤ max_facts) }
+    ensures few { OnOk result (HasNoMoreFactsThan new.now (expr.0 ∷ []) max_facts) }
     ensures limit { result ≡ Err stops.Limit → HasMoreFactsThan new.now (expr.0 ∷ []) max_facts }
 {
     let mut asked = saturation.asked(old, new, expr)?;
@@ -93,6 +95,7 @@ impl<'a> Tester<'a> {
         requires individual { individual.0 < length test.now.names.individuals }
         requires class { class.0 < length test.now.nodes }
         ensures exact { IfOk result (λ b. (b ≡ true) ↔ IsMember (axiom_trees test.now) (individual_name test.now individual.0) (expression test.now class.0)) }
+        ensures few { OnOk result (HasNoMoreFactsThan test.now (class.0 ∷ []) self.now.max_facts) }
         ensures limit { result ≡ Err stops.Limit → HasMoreFactsThan test.now (class.0 ∷ []) self.now.max_facts }
     {
         let saturation = saturated_with(self.saturation, self.known, test, class, self.max_facts)?;
@@ -111,8 +114,7 @@ impl<'a> Tester<'a> {
     pub(crate) fn claim_follows(&self, claim: Claim<'_>) -> Result<bool, TestFault>
         requires ready { IsReady self.now }
         requires claim { IsClaimOf self.now.about.now claim }
-        ensures exact { IfOk result (λ b. (b ≡ true) ↔ IsEntailed self.now.about.now claim.entry) }
-        ensures fault { IfErr result (IsUntold self.now.about.now self.now.max_facts) }
+        ensures { IsTold self.now.about.now (claimed claim.entry ∷ []) self.now.max_facts result }
     {
         let test = match test_of(self.alloc, self.about, claim) {
             Ok(test) => test,

@@ -5,6 +5,7 @@ use Rattle.axioms.specs.Fronts.{Extends}
 use Rattle.axioms.specs.Ontology.{Ontology, axiom_trees}
 use Rattle.engine.specs.Saturations.{IsFinished}
 use Rattle.entailment.specs.Entailment.{Entails}
+use Rattle.entailment.specs.Testers.{IsWithinLimit}
 use Rattle.fs_parser.specs.Name.{Prefixes}
 use Rattle.profile.proofs.Extending.{extends_of}
 use Rattle.profile.specs.AddedTexts.{IsAddedText}
@@ -21,15 +22,16 @@ text_extends version prefixes text old new is = extends_of _ _ _ _ old new is.ad
 
 module _ (s : Opened) (text : List ℕ) (new : Ontology) (finished : IsFinished s.saturation) (within : IsWithin s text) (is : IsAddedText s.version s.prefixes text s.ontology new) where
   pub entailment : (r : Result Bool EntailsFault) → OnOk r (new.names ≡ s.ontology.names)
-      → IfOk r (λ b. (others : List Axiom) → axiom_trees new ≡ axiom_trees s.ontology ++ others → (b ≡ true) ↔ Entails (axiom_trees s.ontology) others) → IfOk r (IsEntailment s text)
-  entailment (Ok b) known exact = record {
+      → IfOk r (λ b. (others : List Axiom) → axiom_trees new ≡ axiom_trees s.ontology ++ others → (b ≡ true) ↔ Entails (axiom_trees s.ontology) others) → (most : ℕ) → OnOk r (IsWithinLimit s.ontology new most) → IfOk r (IsEntailment s text most)
+  entailment (Ok b) known exact most few = record {
     finished = finished;
     within = within;
     stated = _;
     states = record { new = new; text_is = is; known = known; axioms = is.added.adds.grows.axioms_grow };
     exact = exact _ is.added.adds.grows.axioms_grow;
+    few = few;
   }
-  entailment (Err fault) known exact = tt
+  entailment (Err fault) known exact most few = tt
 
   untold : (fault : EntailsFault) (most : ℕ) → IsUntoldOf s.ontology new most fault → IsEntailmentRefusal s text most fault
   untold Unfinished most h = absurd h

@@ -18,7 +18,7 @@ use Rattle.profile.specs.AddedTexts.{IsReadExpression}
 use Rattle.profile.specs.Statements.{class_of}
 use Rattle.program.specs.declared.version.Version.{Version}
 use Rattle.session.specs.Additions.{IsWithin}
-use Rattle.session.specs.FactCounts.{HasNoMoreFactsThan}
+use Rattle.entailment.specs.FactCounts.{HasNoMoreFactsThan}
 use Rattle.session.specs.Queries.{AreAnswersFor, IsQueryAnswer, IsQueryRefusal, NamesFound, SpellsExpression}
 use Rattle.session.specs.Sessions.{Opened}
 use Rattle.session.specs.declared.query_fault.QueryFault.TheVariants.{Memory}

@@ -2,7 +2,6 @@ pub mod Outcomes
 pub mod SessionOpened
 pub mod Finding
 pub mod Deciding
-pub mod Counting
 pub mod AtEnd
 pub mod Growing
 pub mod Expressions

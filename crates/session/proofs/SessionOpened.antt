@@ -8,7 +8,7 @@ use Rattle.profile.specs.declared.fault.DocumentFault.TheVariants.{Io, Memory, T
 use Rattle.profile.specs.declared.opened.Opened as reading
 use Rattle.program.specs.declared.limits.Limits.{Limits}
 use Rattle.program.specs.declared.version.Version.{Version}
-use Rattle.session.specs.FactCounts.{HasNoMoreFactsThan}
+use Rattle.entailment.specs.FactCounts.{HasNoMoreFactsThan}
 use Rattle.session.specs.Sessions.{KeepsText, Opened, as_read}
 use Rattle.session.specs.TextAnswers.{IsRunAs}
 

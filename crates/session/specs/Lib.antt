@@ -3,7 +3,6 @@ pub mod Sessions
 pub mod Progress
 pub mod Additions
 pub mod Answers
-pub mod FactCounts
 pub mod Queries
 pub mod Entailments
 pub mod Texts

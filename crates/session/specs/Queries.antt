@@ -14,7 +14,7 @@ use Rattle.profile.specs.declared.fault.DocumentFault.TheVariants.{TooLarge}
 use Rattle.profile.specs.declared.opened.Opened as reading
 use Rattle.program.specs.declared.version.Version.{Version}
 use Rattle.shapes.specs.Faults.{expression_faults}
-use Rattle.session.specs.FactCounts.{HasNoMoreFactsThan}
+use Rattle.entailment.specs.FactCounts.{HasNoMoreFactsThan}
 use Rattle.session.specs.Sessions.{Opened, as_read}
 use Rattle.session.specs.declared.query_fault.QueryFault.{QueryFault}
 use Rattle.session.specs.declared.query_fault.QueryFault.TheVariants.{Unfinished, Expression, Limit, Memory}

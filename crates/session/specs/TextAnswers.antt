@@ -38,7 +38,7 @@ use Rattle.program.specs.declared.question.Spelling.{Spelling}
 use Rattle.short_names.specs.Spellings.{IsSpelled}
 use Rattle.answers.specs.declared.explanation.Explanation.{Explanation}
 use Rattle.answers.specs.declared.explanation.Explanation.TheVariants.{Yes, No, Contradictory}
-use Rattle.session.specs.FactCounts.{HasNoMoreFactsThan}
+use Rattle.entailment.specs.FactCounts.{HasNoMoreFactsThan}
 use Rattle.telling.specs.Devices.{IsReadUntil}
 use Rattle.session.specs.Queries.{IsAnswer, IsUnanswerable, NamesFound}
 use Rattle.session.specs.declared.query_fault.QueryFault.{QueryFault}

@@ -5,6 +5,7 @@ ghost use Rattle.axioms.specs.Ontology as numbered;
 ghost use Rattle.axioms.specs.Ontology.{axiom_trees};
 ghost use Rattle.engine.specs.Saturations.{IsFinished};
 ghost use Rattle.entailment.specs.Entailment.{Entails};
+ghost use Rattle.entailment.specs.Testers.{IsWithinLimit};
 ghost use Rattle.profile.specs.AddedTexts.{IsAddedText};
 ghost use Rattle.session.specs.Additions.{IsRefusedAddition, IsWithin};
 ghost use Rattle.session.specs.Entailments.{IsEntailment, IsEntailmentRefusal, IsNewName, IsUntoldOf};
@@ -82,6 +83,7 @@ impl Session {
         ensures known { OnOk result (stated.now.names ≡ self.now.ontology.names) }
         ensures exact { IfOk result (λ b. (others : List tree.Axiom) → axiom_trees stated.now ≡ axiom_trees self.now.ontology ++ others →
             (b ≡ true) ↔ Entails (axiom_trees self.now.ontology) others) }
+        ensures few { OnOk result (IsWithinLimit self.now.ontology stated.now max_facts) }
         ensures fault { IfErr result (IsUntoldOf self.now.ontology stated.now max_facts) }
     {
         if let Some(name) = new_name(&self.ontology, stated) {
@@ -104,11 +106,12 @@ impl Session {
     ///
     /// `Unfinished`, before all others, where facts are pending. `Statements` where the text could not be added, as `add` tells it.
     /// `UnknownName` where it has a name that the ontology lacks: of these the first class, or else the first property, or else the
-    /// first individual. Each axiom is tested by a copy with a few axioms more, about individuals that are not there: `Limit` where the
-    /// closure of such a copy has more facts than `max_facts`; `TooManyNames` where it would have more than 1,000,000 individuals;
+    /// first individual. What the axioms say is tested one thing after the other, up to the first that does not follow, each by a copy
+    /// with a few axioms more, about individuals that are not there: `Limit` where the closure of such a copy has more facts than
+    /// `max_facts`, and an answer only where that of none has; `TooManyNames` where one would have more than 1,000,000 individuals;
     /// `Memory` where memory was refused, or there would be 2^32 forms or facts or 2^32 - 1 fresh names of a kind.
     pub fn entails(&self, text: &str, max_facts: u32) -> Result<bool, EntailsFault>
-        ensures exact { IfOk result (IsEntailment self.now text.now) }
+        ensures exact { IfOk result (IsEntailment self.now text.now max_facts) }
         ensures refused { IfErr result (IsEntailmentRefusal self.now text.now max_facts) }
     {
         if !self.saturation.is_finished() {

@@ -4,7 +4,7 @@ ghost use Rattle.engine.specs.Saturations.{HasMoreFactsThan, IsFinished};
 ghost use Rattle.inference.specs.declared.known_facts.Stop.TheVariants as stops;
 ghost use Rattle.profile.specs.AddedTexts.{IsReadExpression};
 ghost use Rattle.session.specs.Additions.{IsWithin};
-ghost use Rattle.session.specs.FactCounts.{HasNoMoreFactsThan};
+ghost use Rattle.entailment.specs.FactCounts.{HasNoMoreFactsThan};
 ghost use Rattle.session.specs.Queries.{AreAnswersFor, IsQueryAnswer, IsQueryRefusal, RefusesText, names_in};
 ghost use Rattle.session.specs.Sessions.{as_read};
 ghost use Rattle.std.specs.Prelude.{◌≡◌, ◌<◌, ◌≤◌, ◌∷◌, [], ℕ, List, Err, IfErr, IfOk, OnOk, length};

@@ -51,7 +51,7 @@ query_call s text most (Ok answers) exact refused = (exact, refl)
 query_call s text most (Err fault) exact refused = (refused, refl)
 
 -- axioms that may follow, and whether they do
-pub entail_call : (s : Opened) (text : List ℕ) (most : ℕ) (r : Result Bool EntailsFault) → IfOk r (IsEntailment s text) → IfErr r (IsEntailmentRefusal s text most)
+pub entail_call : (s : Opened) (text : List ℕ) (most : ℕ) (r : Result Bool EntailsFault) → IfOk r (IsEntailment s text most) → IfErr r (IsEntailmentRefusal s text most)
     → IsCall s (Entail text most) (Entailed r) s
 entail_call s text most (Ok entailed) exact refused = (exact, refl)
 entail_call s text most (Err fault) exact refused = (refused, refl)

@@ -1,5 +1,5 @@
 use Rattle.std.proofs.Common.{[]}
-use Rattle.session.proofs.Counting.{no_more}
+use Rattle.entailment.proofs.Counting.{no_more}
 use Rattle.session.proofs.SessionOpened.{runs_as}
 use Rattle.telling.proofs.Told.{progress_behind}
 use Rattle.session.proofs.opening.run_telling.Goals as goal

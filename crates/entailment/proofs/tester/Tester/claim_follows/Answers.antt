@@ -2,6 +2,7 @@ use Rattle.std.proofs.Common.{◌≡◌, ◌↔◌, ◌<◌, ℕ, true, length, 
 use Rattle.axioms.specs.Ontology.{axiom_trees, expression, individual_name}
 use Rattle.entailment.proofs.Building.{class_in_test, grows_on, individual_in_test, keeps_on}
 use Rattle.entailment.proofs.Deciding.{tests_decide}
+use Rattle.entailment.proofs.Telling.{full_by, limit_by, told_by}
 use Rattle.entailment.specs.Tests.{tested_individual}
 use Rattle.interpretation_spec.specs.Interpretation.{IsMember}
 use Rattle.entailment.proofs.tester.Tester.claim_follows.Goals as goal
@@ -24,8 +25,8 @@ is_tested-requires-clause-class c =
     subst (λ n. n < length c.in-Ok.test.nodes) (sym c.tested.ensures.class)
     (class_in_test c.args.self.now.known.now o c.args.claim c.in-Ok.test c.in-Ok.ensures.test c.well_formed-2.ensures c.requires.claim)
 
-pub returns-in-Ok-is_tested-clause-exact : goal.returns-in-Ok-is_tested-clause-exact
-returns-in-Ok-is_tested-clause-exact c =
+pub returns-in-Ok-is_tested : goal.returns-in-Ok-is_tested
+returns-in-Ok-is_tested c =
     let o = c.args.self.now.about.now in
     let t = c.in-Ok.test in
     let claim = c.args.claim in
@@ -33,4 +34,11 @@ returns-in-Ok-is_tested-clause-exact c =
     let P : ℕ → ℕ → Type 0 = λ a e. (c.in-Ok-is_tested.follows ≡ true) ↔ IsMember (axiom_trees t) (individual_name t a) (expression t e) in
     let told = subst₂ P same c.tested.ensures.class c.in-Ok-is_tested.ensures.exact in
     let law = tests_decide o claim t c.well_formed-2.ensures c.requires.claim c.in-Ok.ensures.test c.well_formed-3.ensures in
-    (λ h. law.0 (told.0 h), λ entailed. told.1 (law.1 entailed))
+    told_by o c.args.self.now.max_facts claim c.requires.claim t _ c.in-Ok.ensures.test c.tested.ensures.class c.in-Ok-is_tested.follows (λ h. law.0 (told.0 h), λ entailed. told.1 (law.1 entailed)) c.in-Ok-is_tested.ensures.few
+
+pub returns-in-Err-Limit : goal.returns-in-Err-Limit
+returns-in-Err-Limit c =
+    limit_by c.args.self.now.about.now c.args.self.now.max_facts c.args.claim c.requires.claim c.in-Ok.test _ c.in-Ok.ensures.test c.tested.ensures.class (c.is_tested.ensures.limit cc)
+
+pub returns-in-Err-TooManyNames : goal.returns-in-Err-TooManyNames
+returns-in-Err-TooManyNames c = full_by c.args.self.now.about.now c.args.self.now.max_facts c.args.claim c.requires.claim (c.test_of.ensures.full cc)

@@ -1,7 +1,6 @@
-use Rattle.std.proofs.Common.{◌<◌, [], ◌∷◌, length, subst, sym}
+use Rattle.std.proofs.Common.{◌<◌, length, subst, sym}
 use Rattle.engine.specs.Closed.{Closed}
 use Rattle.session.proofs.Expressions.{is_there}
-use Rattle.session.proofs.Counting.{no_more}
 use Rattle.session.proofs.session.Session.answers_with.Goals as goal
 
 pub saturated_with-requires-clause-there : goal.saturated_with-requires-clause-there
@@ -11,8 +10,3 @@ pub answers_for-requires-clause-there : goal.answers_for-requires-clause-there
 answers_for-requires-clause-there c =
     let P : Closed → Type 0 = λ i. c.args.expr.0 < length i.ontology.nodes in
     subst P (sym c.in-Some.ensures.some) (is_there _ _ _ _ c.args.grown.now c.args.expr.0 c.requires.read.1)
-
-pub returns-clause-few : goal.returns-clause-few
-returns-clause-few c =
-    let done = c.in_ok-saturation.ensures in
-    no_more c.args.grown.now _ (c.args.expr.0 ∷ []) c.args.max_facts done.asked done.saturated done.within

@@ -4,7 +4,7 @@ use Rattle.axioms.specs.Ontology.{Ontology}
 use Rattle.classification.proofs.Counting.{has_facts}
 use Rattle.classification.specs.Classifications.{HasFacts}
 use Rattle.engine.specs.Saturations.{Saturated, IsSaturated}
-use Rattle.session.specs.FactCounts.{HasNoMoreFactsThan}
+use Rattle.entailment.specs.FactCounts.{HasNoMoreFactsThan}
 
 -- all facts of the closure are at most n, so it has at most n
 pub no_more : (o : Ontology) (s : Saturated) (asked : List ℕ) (n : ℕ) → s.normal.asked ≡ asked → IsSaturated o s → length s.state.facts ≤ n → HasNoMoreFactsThan o asked n
