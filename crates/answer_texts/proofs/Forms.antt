@@ -62,13 +62,13 @@ two_operands r out keyword first second a b c d new ea eb ec ed en =
     ∙ ap (λ (t : List ℕ). out ++ (((keyword ++ codes "(") ++ (first ++ t)) ++ codes ")")) (sym (append-nil (codes " " ++ second))))
 
 -- three operands
-pub three_operands : {A E : Type 0} (r : Result A E) (out keyword first second third : List ℕ) (a b c d e f g new : List ℕ)
-    → a ≡ out ++ keyword → b ≡ a ++ codes "(" → c ≡ b ++ first → d ≡ c ++ codes " " → e ≡ d ++ second → f ≡ e ++ codes " " → g ≡ f ++ third
+pub three_operands : {A E : Type 0} (r : Result A E) (out keyword first second third : List ℕ) (b c d e f g new : List ℕ)
+    → b ≡ out ++ (keyword ++ codes "(") → c ≡ b ++ first → d ≡ c ++ codes " " → e ≡ d ++ second → f ≡ e ++ codes " " → g ≡ f ++ third
     → new ≡ (if is_ok r then g ++ codes ")" else g)
     → OnOk r (new ≡ out ++ form keyword (first ∷ second ∷ third ∷ []))
-three_operands r out keyword first second third a b c d e f g new ea eb ec ed ee ef eg en =
+three_operands r out keyword first second third b c d e f g new eb ec ed ee ef eg en =
     let begun : c ≡ (out ++ (keyword ++ codes "(")) ++ first =
-    ec ∙ ap (λ (t : List ℕ). t ++ first) (eb ∙ ap (λ (t : List ℕ). t ++ codes "(") ea ∙ append_assoc out keyword (codes "(")) in
+    ec ∙ ap (λ (t : List ℕ). t ++ first) eb in
     let more : g ≡ c ++ ((codes " " ++ second) ++ (codes " " ++ third)) =
     eg ∙ ap (λ (t : List ℕ). t ++ third) (ef ∙ ap (λ (t : List ℕ). t ++ codes " ") (ee ∙ ap (λ (t : List ℕ). t ++ second) ed)) ∙ behind c (codes " ") second third in
     on_ok r new g (codes ")") (out ++ form keyword (first ∷ second ∷ third ∷ [])) en

@@ -12,7 +12,7 @@ ghost use Rattle.std.specs.Prelude.{◌≡◌, ◌≤◌, All, IfOk, IsErrOf, On
 
 use crate::proof::push_lines;
 use crate::reach::reached;
-use crate::refutation::{push_reached, push_refutation};
+use crate::refutation::{push_refutation, text_of_reached};
 use crate::{graph_of_proof, graph_of_refutation};
 use axioms::{Memory, Ontology};
 use certificate::Line;
@@ -93,9 +93,8 @@ pub fn reached_refutation_bytes(
     ensures { IfOk result (λ v. IsOfReached interpretation.now element (λ found. reached_text ontology.now.names interpretation.now found element) v.items) }
 {
     let found = reached(alloc, ontology, interpretation, element)?;
-    let mut out = Vec::new(alloc);
-    push_reached(alloc, &mut out, ontology, interpretation, &found, element)?;
-    Ok(out)
+    let text = text_of_reached(alloc, ontology, interpretation, &found, element)?;
+    Ok(text)
 }
 
 /// The lines of a derivation as a DOT document: a node for each line, and an edge to it from each premise, in memory.
@@ -153,7 +152,12 @@ pub fn reached_refutation_graph_bytes(
     ensures { IfOk result (λ v. IsOfReached interpretation.now element (λ found. reached_graph ontology.now.names interpretation.now found element) v.items) }
 {
     let found = reached(alloc, ontology, interpretation, element)?;
-    let mut out = Vec::new(alloc);
-    graph_of_refutation::push_reached(alloc, &mut out, ontology, interpretation, &found, element)?;
-    Ok(out)
+    let graph = graph_of_refutation::graph_of_reached(
+        alloc,
+        ontology,
+        interpretation,
+        &found,
+        element,
+    )?;
+    Ok(graph)
 }

@@ -148,19 +148,17 @@ fn push_class_assertion(
     out.extend_from_slice(b")")
 }
 
-// Adds the keyword with a property, a source and a target.
+// Adds what stands behind the keyword of a pair: a property, a source and a target.
 fn push_pair(
     out: &mut Vec<u8>,
     ontology: &Ontology,
-    keyword: &[u8],
     property: PropId,
     source: IndId,
     target: IndId,
 ) -> Result<(), AllocError>
-    ensures { OnOk result (out.new.items ≡ out.old.items ++ form keyword.now
+    ensures { OnOk result (out.new.items ≡ out.old.items ++ form []
         (name_text (property_name ontology.now property.0) ∷ name_text (individual_name ontology.now source.0) ∷ name_text (individual_name ontology.now target.0) ∷ [])) }
 {
-    out.extend_from_slice(keyword)?;
     out.extend_from_slice(b"(")?;
     push_property(out, ontology, property)?;
     out.extend_from_slice(b" ")?;
@@ -204,28 +202,20 @@ pub fn write_axiom(out: &mut Vec<u8>, ontology: &Ontology, stated: &Axiom) -> Re
         Axiom::ClassAssertion(class, individual) => {
             push_class_assertion(out, ontology, *class, *individual)
         }
-        Axiom::PropertyAssertion(property, source, target) => push_pair(
-            out,
-            ontology,
-            b"ObjectPropertyAssertion",
-            *property,
-            *source,
-            *target,
-        ),
+        Axiom::PropertyAssertion(property, source, target) => {
+            out.extend_from_slice(b"ObjectPropertyAssertion")?;
+            push_pair(out, ontology, *property, *source, *target)
+        }
         Axiom::SameIndividuals(individuals) => {
             push_individuals(out, ontology, b"SameIndividual", individuals)
         }
         Axiom::DifferentIndividuals(individuals) => {
             push_individuals(out, ontology, b"DifferentIndividuals", individuals)
         }
-        Axiom::NegativePropertyAssertion(property, source, target) => push_pair(
-            out,
-            ontology,
-            b"NegativeObjectPropertyAssertion",
-            *property,
-            *source,
-            *target,
-        ),
+        Axiom::NegativePropertyAssertion(property, source, target) => {
+            out.extend_from_slice(b"NegativeObjectPropertyAssertion")?;
+            push_pair(out, ontology, *property, *source, *target)
+        }
     }
 }
 

@@ -1,10 +1,10 @@
 //! The axioms that a derivation cites.
 ghost use Rattle.answer_texts.specs.Cited.{AreCited, IsCitedText, cited_line, cited_lines};
 ghost use Rattle.axioms.specs.View.{at_number};
-ghost use Rattle.certificate.specs.Writability.{IsLineOf, axiom_numbers};
+ghost use Rattle.certificate.specs.Writability.{axiom_numbers};
 ghost use Rattle.certificate.specs.View.{lines_of};
 ghost use Rattle.std.specs.List.{flat_map};
-ghost use Rattle.std.specs.Prelude.{◌++◌, ◌≡◌, All, IfOk, OnOk};
+ghost use Rattle.std.specs.Prelude.{◌++◌, ◌≡◌, IfOk, OnOk};
 
 use crate::axiom::write_axiom;
 use crate::names::push_number;

@@ -4,7 +4,7 @@ ghost use Rattle.answer_texts.specs.Reached.{others_label, reached_graph};
 ghost use Rattle.axioms.specs.Ontology.{name_at};
 ghost use Rattle.interpretation_spec.specs.NumberedInterpretation.{IsMadeFor};
 ghost use Rattle.std.specs.List.{enumerate_from, flat_map, range_with_len};
-ghost use Rattle.std.specs.Prelude.{◌++◌, ◌-◌, ◌≡◌, OnOk, length, map};
+ghost use Rattle.std.specs.Prelude.{◌++◌, ◌-◌, ◌≡◌, IfOk, OnOk, length, map};
 ghost use Rattle.std.specs.String.{string_bytes};
 
 use crate::graph_of_proof::push_escaped;
@@ -213,22 +213,22 @@ fn push_others(out: &mut Vec<u8>, others: usize) -> Result<(), AllocError>
     out.extend_from_slice(b"\";\n")
 }
 
-/// Adds what the graph has of the elements in the set, and how many others there are.
-pub(crate) fn push_reached(
+/// What the graph has of the elements in the set, and how many others there are.
+pub(crate) fn graph_of_reached(
     alloc: Global,
-    out: &mut Vec<u8>,
     ontology: &Ontology,
     interpretation: &Interpretation,
     reached: &EpochSet,
     refuting: usize,
-) -> Result<(), Memory>
+) -> Result<Vec<u8>, Memory>
     requires { IsMadeFor ontology.now.names interpretation.now }
-    ensures { OnOk result (out.new.items ≡ out.old.items ++ reached_graph ontology.now.names interpretation.now reached.now refuting) }
+    ensures { IfOk result (λ v. v.items ≡ reached_graph ontology.now.names interpretation.now reached.now refuting) }
 {
     let elements = elements_in(alloc, interpretation, reached)?;
     let others = interpretation.size() - elements.len();
+    let mut out = Vec::new(alloc);
     out.extend_from_slice(b"digraph refutation {\n  node [shape=ellipse];\n")?;
-    push_others(out, others)?;
-    push_drawn(out, ontology, interpretation, &elements, refuting)?;
-    Ok(())
+    push_others(&mut out, others)?;
+    push_drawn(&mut out, ontology, interpretation, &elements, refuting)?;
+    Ok(out)
 }

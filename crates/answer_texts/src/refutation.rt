@@ -202,24 +202,24 @@ pub(crate) fn push_refutation(
     Ok(())
 }
 
-/// Adds what the text has of the elements in the set, and how many others there are.
-pub(crate) fn push_reached(
+/// What the text has of the elements in the set, and how many others there are.
+pub(crate) fn text_of_reached(
     alloc: Global,
-    out: &mut Vec<u8>,
     ontology: &Ontology,
     interpretation: &Interpretation,
     reached: &EpochSet,
     element: usize,
-) -> Result<(), Memory>
+) -> Result<Vec<u8>, Memory>
     requires { IsMadeFor ontology.now.names interpretation.now }
-    ensures { OnOk result (out.new.items ≡ out.old.items ++ reached_text ontology.now.names interpretation.now reached.now element) }
+    ensures { IfOk result (λ v. v.items ≡ reached_text ontology.now.names interpretation.now reached.now element) }
 {
     let elements = elements_in(alloc, interpretation, reached)?;
     let others = interpretation.size() - elements.len();
-    push_rows(alloc, out, ontology, interpretation, &elements)?;
-    push_individuals_in(out, ontology, interpretation, reached)?;
-    push_element(out, element)?;
-    push_number(out, b"others ", others as u64)?;
+    let mut out = Vec::new(alloc);
+    push_rows(alloc, &mut out, ontology, interpretation, &elements)?;
+    push_individuals_in(&mut out, ontology, interpretation, reached)?;
+    push_element(&mut out, element)?;
+    push_number(&mut out, b"others ", others as u64)?;
     out.extend_from_slice(b"\n")?;
-    Ok(())
+    Ok(out)
 }

@@ -1,7 +1,7 @@
 //! The properties above those that edges may have, with the ways to them.
 ghost use Rattle.explain.specs.Search.{AreLeadsWithin, AreReachedOrNone, AreTold, LeadsUp};
 ghost use Rattle.number_sets.specs.Pieces.{list_at};
-ghost use Rattle.std.specs.Prelude.{◌<◌, ◌≡◌, ◌≤◌, ◌^◌, IfOk, length, ℕ};
+ghost use Rattle.std.specs.Prelude.{◌<◌, ◌≤◌, ◌^◌, IfOk, length, ℕ};
 
 use crate::reached::Reached;
 use crate::told::Told;

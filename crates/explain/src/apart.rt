@@ -17,12 +17,13 @@ use crate::basis::Basis;
 use crate::between::chain_to_one;
 use crate::derivation::Derivation;
 use crate::line::{concluded, fact_of};
-use crate::lines_by_fact::{LineNumbers, LinesByFact};
+use crate::lines_by_fact::LineNumbers;
+use crate::next_fact::NextFact;
 use crate::same::same_along;
 use crate::sink::LineSink;
 use axioms::{IndId, Memory};
 use certificate::Rule;
-use facts::{Birth, Context, Fact, FactId, Older};
+use facts::{Context, Fact, FactId, Older};
 use smallvec::SmallVec;
 
 /// What two classes led to that have nothing in common: adds the line of the fact, and gives its number. `list` is the number of a list
@@ -34,27 +35,25 @@ use smallvec::SmallVec;
 pub(crate) fn shown_by_disjoint<L: LineSink>(
     basis: &Basis<'_>,
     derivation: &mut Derivation<L>,
-    shown: &LinesByFact,
-    fact: FactId,
-    birth: &Birth,
+    next: &NextFact<'_>,
     list: u32,
 ) -> Result<LineNumbers, Memory>
-    requires next { IsNext basis.now.closed.now.ontology basis.now.closed.now.saturation derivation.old shown.now fact.0 (reason birth.now) }
-    requires list { (reason birth.now).form ≡ Some list }
-    requires disjoint { (reason birth.now).condition ≡ by_disjoint }
-    ensures { IfOk result (λ numbers. ShowsNext basis.now.closed.now.ontology basis.now.closed.now.saturation shown.now fact.0 derivation.old derivation.new numbers.items) }
+    requires next { IsNext basis.now.closed.now.ontology basis.now.closed.now.saturation derivation.old next.now.shown.now next.now.fact.0 (reason next.now.birth.now) }
+    requires list { (reason next.now.birth.now).form ≡ Some list }
+    requires disjoint { (reason next.now.birth.now).condition ≡ by_disjoint }
+    ensures { IfOk result (λ numbers. ShowsNext basis.now.closed.now.ontology basis.now.closed.now.saturation next.now.shown.now next.now.fact.0 derivation.old derivation.new numbers.items) }
 {
     basis.closed.well_formed();
-    let Older::Two(first, second) = birth.older() else {
+    let Older::Two(first, second) = next.birth.older() else {
         // Two facts are taken.
         unreachable!()
     };
-    let mut numbers = shown.at(basis.alloc, first.0 as usize)?;
-    let more = shown.at(basis.alloc, second.0 as usize)?;
+    let mut numbers = next.shown.at(basis.alloc, first.0 as usize)?;
+    let more = next.shown.at(basis.alloc, second.0 as usize)?;
     numbers.extend_from_slice(more.as_slice())?;
-    let fact = fact_of(basis.closed, fact);
+    let fact = fact_of(basis.closed, next.fact);
     let axiom = basis.closed.normal().disjoint_axiom(list as usize);
-    let numbers = concluded(basis.alloc, derivation, fact, Rule::K7, axiom, numbers)?;
+    let numbers = concluded(derivation, fact, Rule::K7, axiom, numbers)?;
     Ok(numbers)
 }
 
@@ -134,6 +133,6 @@ pub(crate) fn shown_by_different<L: LineSink>(
     let mut numbers = SmallVec::new(basis.alloc);
     numbers.push(number)?;
     let axiom = basis.closed.normal().different_axiom(list as usize);
-    let numbers = concluded(basis.alloc, derivation, fact, Rule::K20, axiom, numbers)?;
+    let numbers = concluded(derivation, fact, Rule::K20, axiom, numbers)?;
     Ok(numbers)
 }

@@ -15,15 +15,16 @@ use crate::apart::{shown_by_different, shown_by_disjoint};
 use crate::basis::Basis;
 use crate::conditions::{BY_DIFFERENT, BY_DISJOINT, BY_INCLUSION};
 use crate::derivation::Derivation;
-use crate::exchange::handed_on;
+use crate::exchange::{Handing, handed_on};
 use crate::line::{concluded, fact_of};
-use crate::lines_by_fact::{LineNumbers, LinesByFact};
+use crate::lines_by_fact::LineNumbers;
+use crate::next_fact::NextFact;
 use crate::older::rests_on;
 use crate::premises::premises;
 use crate::sink::LineSink;
 use axioms::{Axiom, Memory, Ontology};
 use certificate::Rule;
-use facts::{Birth, FactId, Older};
+use facts::Older;
 use normal_forms::{Form, Origin};
 use normalise::Normal;
 
@@ -98,25 +99,23 @@ fn inclusion_rule(normal: &Normal, number: u32) -> (Rule, Option<usize>)
 fn shown_by_inclusion<L: LineSink>(
     basis: &Basis<'_>,
     derivation: &mut Derivation<L>,
-    shown: &LinesByFact,
-    fact: FactId,
-    birth: &Birth,
+    next: &NextFact<'_>,
     form: u32,
 ) -> Result<LineNumbers, Memory>
-    requires next { IsNext basis.now.closed.now.ontology basis.now.closed.now.saturation derivation.old shown.now fact.0 (reason birth.now) }
-    requires form { (reason birth.now).form ≡ Some form }
-    requires inclusion { (reason birth.now).condition ≡ by_inclusion }
-    ensures { IfOk result (λ numbers. ShowsNext basis.now.closed.now.ontology basis.now.closed.now.saturation shown.now fact.0 derivation.old derivation.new numbers.items) }
+    requires next { IsNext basis.now.closed.now.ontology basis.now.closed.now.saturation derivation.old next.now.shown.now next.now.fact.0 (reason next.now.birth.now) }
+    requires form { (reason next.now.birth.now).form ≡ Some form }
+    requires inclusion { (reason next.now.birth.now).condition ≡ by_inclusion }
+    ensures { IfOk result (λ numbers. ShowsNext basis.now.closed.now.ontology basis.now.closed.now.saturation next.now.shown.now next.now.fact.0 derivation.old derivation.new numbers.items) }
 {
     basis.closed.well_formed();
-    let Older::One(older) = birth.older() else {
+    let Older::One(older) = next.birth.older() else {
         // One fact is taken.
         unreachable!()
     };
-    let numbers = shown.at(basis.alloc, older.0 as usize)?;
-    let fact = fact_of(basis.closed, fact);
+    let numbers = next.shown.at(basis.alloc, older.0 as usize)?;
+    let fact = fact_of(basis.closed, next.fact);
     let (rule, axiom) = inclusion_rule(basis.closed.normal(), form);
-    let numbers = concluded(basis.alloc, derivation, fact, rule, axiom, numbers)?;
+    let numbers = concluded(derivation, fact, rule, axiom, numbers)?;
     Ok(numbers)
 }
 
@@ -125,27 +124,25 @@ fn shown_by_inclusion<L: LineSink>(
 fn shown_by_facts<L: LineSink>(
     basis: &Basis<'_>,
     derivation: &mut Derivation<L>,
-    shown: &LinesByFact,
-    fact: FactId,
-    birth: &Birth,
+    next: &NextFact<'_>,
     form: u32,
     step: &Form,
 ) -> Result<LineNumbers, Memory>
     requires paths { basis.now.paths.now ≡ basis.now.closed.now.saturation.state.problem.forms }
-    requires next { IsNext basis.now.closed.now.ontology basis.now.closed.now.saturation derivation.old shown.now fact.0 (reason birth.now) }
-    requires form { (reason birth.now).form ≡ Some form }
+    requires next { IsNext basis.now.closed.now.ontology basis.now.closed.now.saturation derivation.old next.now.shown.now next.now.fact.0 (reason next.now.birth.now) }
+    requires form { (reason next.now.birth.now).form ≡ Some form }
     requires step { slice_get basis.now.closed.now.saturation.state.problem.forms form ≡ Some step.now }
     requires facts { TakesNoSame step.now }
-    requires of_form { NamesForm (reason birth.now).condition }
-    ensures { IfOk result (λ numbers. ShowsNext basis.now.closed.now.ontology basis.now.closed.now.saturation shown.now fact.0 derivation.old derivation.new numbers.items) }
+    requires of_form { NamesForm (reason next.now.birth.now).condition }
+    ensures { IfOk result (λ numbers. ShowsNext basis.now.closed.now.ontology basis.now.closed.now.saturation next.now.shown.now next.now.fact.0 derivation.old derivation.new numbers.items) }
 {
     basis.closed.well_formed();
     let normal = basis.closed.normal();
-    let older = rests_on(normal, birth);
-    let numbers = premises(basis, derivation, shown, older, step)?;
-    let fact = fact_of(basis.closed, fact);
+    let older = rests_on(normal, next.birth);
+    let numbers = premises(basis, derivation, next.shown, older, step)?;
+    let fact = fact_of(basis.closed, next.fact);
     let (rule, axiom) = origin_rule(basis.closed.ontology(), normal, form, step);
-    let numbers = concluded(basis.alloc, derivation, fact, rule, axiom, numbers)?;
+    let numbers = concluded(derivation, fact, rule, axiom, numbers)?;
     Ok(numbers)
 }
 
@@ -153,26 +150,25 @@ fn shown_by_facts<L: LineSink>(
 fn shown_by_same<L: LineSink>(
     basis: &Basis<'_>,
     derivation: &mut Derivation<L>,
-    shown: &LinesByFact,
-    fact: FactId,
-    birth: &Birth,
+    next: &NextFact<'_>,
     form: u32,
 ) -> Result<LineNumbers, Memory>
-    requires next { IsNext basis.now.closed.now.ontology basis.now.closed.now.saturation derivation.old shown.now fact.0 (reason birth.now) }
-    requires form { (reason birth.now).form ≡ Some form }
+    requires next { IsNext basis.now.closed.now.ontology basis.now.closed.now.saturation derivation.old next.now.shown.now next.now.fact.0 (reason next.now.birth.now) }
+    requires form { (reason next.now.birth.now).form ≡ Some form }
     requires same { (i : Ind) × (j : Ind) × (slice_get basis.now.closed.now.saturation.state.problem.forms form ≡ Some (N10 i j)) }
-    requires of_form { NamesForm (reason birth.now).condition }
-    ensures { IfOk result (λ numbers. ShowsNext basis.now.closed.now.ontology basis.now.closed.now.saturation shown.now fact.0 derivation.old derivation.new numbers.items) }
+    requires of_form { NamesForm (reason next.now.birth.now).condition }
+    ensures { IfOk result (λ numbers. ShowsNext basis.now.closed.now.ontology basis.now.closed.now.saturation next.now.shown.now next.now.fact.0 derivation.old derivation.new numbers.items) }
 {
     basis.closed.well_formed();
-    let Older::One(older) = birth.older() else {
+    let Older::One(older) = next.birth.older() else {
         // One fact is handed on.
         unreachable!()
     };
     let given = fact_of(basis.closed, older);
-    let fact = fact_of(basis.closed, fact);
-    let known = shown.at(basis.alloc, older.0 as usize)?;
-    let numbers = handed_on(basis, derivation, known.as_slice(), form, given, fact)?;
+    let fact = fact_of(basis.closed, next.fact);
+    let known = next.shown.at(basis.alloc, older.0 as usize)?;
+    let handing = Handing { form, given, fact };
+    let numbers = handed_on(basis, derivation, known.as_slice(), handing)?;
     Ok(numbers)
 }
 
@@ -185,35 +181,33 @@ fn shown_by_same<L: LineSink>(
 pub(crate) fn shown_by_form<L: LineSink>(
     basis: &Basis<'_>,
     derivation: &mut Derivation<L>,
-    shown: &LinesByFact,
-    fact: FactId,
-    birth: &Birth,
+    next: &NextFact<'_>,
     number: u32,
 ) -> Result<LineNumbers, Memory>
     requires paths { basis.now.paths.now ≡ basis.now.closed.now.saturation.state.problem.forms }
-    requires next { IsNext basis.now.closed.now.ontology basis.now.closed.now.saturation derivation.old shown.now fact.0 (reason birth.now) }
-    requires form { (reason birth.now).form ≡ Some number }
-    ensures { IfOk result (λ numbers. ShowsNext basis.now.closed.now.ontology basis.now.closed.now.saturation shown.now fact.0 derivation.old derivation.new numbers.items) }
+    requires next { IsNext basis.now.closed.now.ontology basis.now.closed.now.saturation derivation.old next.now.shown.now next.now.fact.0 (reason next.now.birth.now) }
+    requires form { (reason next.now.birth.now).form ≡ Some number }
+    ensures { IfOk result (λ numbers. ShowsNext basis.now.closed.now.ontology basis.now.closed.now.saturation next.now.shown.now next.now.fact.0 derivation.old derivation.new numbers.items) }
 {
     basis.closed.well_formed();
-    let condition = birth.condition();
+    let condition = next.birth.condition();
     if condition == BY_INCLUSION {
-        let numbers = shown_by_inclusion(basis, derivation, shown, fact, birth, number)?;
+        let numbers = shown_by_inclusion(basis, derivation, next, number)?;
         return Ok(numbers);
     }
     if condition == BY_DISJOINT {
-        let numbers = shown_by_disjoint(basis, derivation, shown, fact, birth, number)?;
+        let numbers = shown_by_disjoint(basis, derivation, next, number)?;
         return Ok(numbers);
     }
     if condition == BY_DIFFERENT {
-        let numbers = shown_by_different(basis, derivation, fact, number)?;
+        let numbers = shown_by_different(basis, derivation, next.fact, number)?;
         return Ok(numbers);
     }
     let step = basis.closed.normal().forms().at(number as usize);
     if let Form::N10(..) = step {
-        let numbers = shown_by_same(basis, derivation, shown, fact, birth, number)?;
+        let numbers = shown_by_same(basis, derivation, next, number)?;
         return Ok(numbers);
     }
-    let numbers = shown_by_facts(basis, derivation, shown, fact, birth, number, &step)?;
+    let numbers = shown_by_facts(basis, derivation, next, number, &step)?;
     Ok(numbers)
 }

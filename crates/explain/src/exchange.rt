@@ -8,11 +8,12 @@ ghost use Rattle.explain.specs.Search.{LinksBy};
 ghost use Rattle.explain.specs.Step.{subject_in};
 ghost use Rattle.explain.specs.Uses.{IsAmong, Uses};
 ghost use Rattle.facts.specs.declared.contexts.Context.TheVariants.{Individual};
-ghost use Rattle.facts.specs.declared.contexts.Fact.TheVariants.{Edge, In};
+ghost use Rattle.facts.specs.declared.contexts.Fact.TheVariants.{Edge as EdgeFact, In};
 ghost use Rattle.std.specs.Prelude.{◌≡◌, ◌<◌, ℕ, List, IfOk, OnOk, length};
 
 use crate::basis::Basis;
 use crate::derivation::Derivation;
+use crate::edge::{Edge, Ends};
 use crate::line::{followed, subject};
 use crate::lines_by_fact::LineNumbers;
 use crate::operands::{operands, steps};
@@ -21,7 +22,7 @@ use crate::sink::LineSink;
 use axioms::{IndId, Memory};
 use certificate::{Conclusion, Rule, Subject};
 use facts::{Context, Fact};
-use normal_forms::{Class2, PropId2};
+use normal_forms::Class2;
 use smallvec::SmallVec;
 
 /// An individual that stands for another, where the form of that number makes them one.
@@ -30,6 +31,14 @@ pub(crate) struct Exchange {
     pub(crate) form: u32,
     pub(crate) old: IndId,
     pub(crate) new: IndId,
+}
+
+/// The fact that the form of that number takes, and the other one, as which it hands it on.
+#[derive(Clone, Copy)]
+pub(crate) struct Handing {
+    pub(crate) form: u32,
+    pub(crate) given: Fact,
+    pub(crate) fact: Fact,
 }
 
 // The individual in a context, and the one in its place, where these are two.
@@ -96,22 +105,21 @@ fn source_exchanged<L: LineSink>(
     derivation: &mut Derivation<L>,
     walk: &[u64],
     exchange: Exchange,
-    property: PropId2,
-    target: Context,
+    edge: Edge,
 ) -> Result<LineNumbers, Memory>
     requires derivation { IsDerivation basis.now.closed.now.ontology derivation.old }
     requires linked { LinksBy basis.now.closed.now.saturation.state.problem.forms exchange.form exchange.new exchange.old }
-    requires shown { AreShowingIn basis.now.closed.now.saturation derivation.old walk.now (Edge (Individual exchange.old) property target) }
+    requires shown { AreShowingIn basis.now.closed.now.saturation derivation.old walk.now (EdgeFact (Individual exchange.old) edge.property edge.ends.target) }
     requires some { 0 < length walk.now }
     ensures derivation { OnOk result (IsDerivation basis.now.closed.now.ontology derivation.new) }
     ensures longer { OnOk result (Lengthens derivation.old derivation.new) }
-    ensures shown { IfOk result (λ v. AreShowingIn basis.now.closed.now.saturation derivation.new v.items (Edge (Individual exchange.new) property target)) }
+    ensures shown { IfOk result (λ v. AreShowingIn basis.now.closed.now.saturation derivation.new v.items (EdgeFact (Individual exchange.new) edge.property edge.ends.target)) }
     ensures used { IfOk result (λ v. Uses derivation.old derivation.new (IsAmong walk.now) v.items) }
 {
     let Exchange { form, old, new } = exchange;
-    let steps = steps(basis.alloc, basis.closed.normal(), property)?;
+    let steps = steps(basis.alloc, basis.closed.normal(), edge.property)?;
     let same = same_line(basis, derivation, form, new, old)?;
-    let next = first_target(derivation, walk, target);
+    let next = first_target(derivation, walk, edge.ends.target);
     let moved = Conclusion::Edge(Subject::Individual(new), steps[0], next);
     let line = walk[0];
     let number = followed(derivation, moved, Rule::K19, same, line)?;
@@ -127,21 +135,20 @@ fn target_exchanged<L: LineSink>(
     derivation: &mut Derivation<L>,
     walk: &[u64],
     exchange: Exchange,
-    source: Context,
-    property: PropId2,
+    edge: Edge,
 ) -> Result<LineNumbers, Memory>
     requires derivation { IsDerivation basis.now.closed.now.ontology derivation.old }
     requires linked { LinksBy basis.now.closed.now.saturation.state.problem.forms exchange.form exchange.new exchange.old }
-    requires shown { AreShowingIn basis.now.closed.now.saturation derivation.old walk.now (Edge source property (Individual exchange.old)) }
+    requires shown { AreShowingIn basis.now.closed.now.saturation derivation.old walk.now (EdgeFact edge.ends.source edge.property (Individual exchange.old)) }
     requires some { 0 < length walk.now }
     ensures derivation { OnOk result (IsDerivation basis.now.closed.now.ontology derivation.new) }
     ensures longer { OnOk result (Lengthens derivation.old derivation.new) }
-    ensures shown { IfOk result (λ v. AreShowingIn basis.now.closed.now.saturation derivation.new v.items (Edge source property (Individual exchange.new))) }
+    ensures shown { IfOk result (λ v. AreShowingIn basis.now.closed.now.saturation derivation.new v.items (EdgeFact edge.ends.source edge.property (Individual exchange.new))) }
     ensures used { IfOk result (λ v. Uses derivation.old derivation.new (IsAmong walk.now) v.items) }
 {
     let Exchange { form, old, new } = exchange;
     let last = walk.len() - 1;
-    let steps = steps(basis.alloc, basis.closed.normal(), property)?;
+    let steps = steps(basis.alloc, basis.closed.normal(), edge.property)?;
     let same = same_line(basis, derivation, form, new, old)?;
     let line = walk[last];
     let Some(before) = derivation.source(line) else {
@@ -156,7 +163,7 @@ fn target_exchanged<L: LineSink>(
     Ok(numbers)
 }
 
-/// The lines of what the form of that number hands on, from those of the fact that it hands on.
+/// The lines of what a form hands on, from those of the fact that it takes.
 ///
 /// # Errors
 ///
@@ -165,20 +172,19 @@ pub(crate) fn handed_on<L: LineSink>(
     basis: &Basis<'_>,
     derivation: &mut Derivation<L>,
     known: &[u64],
-    form: u32,
-    given: Fact,
-    fact: Fact,
+    handing: Handing,
 ) -> Result<LineNumbers, Memory>
     requires derivation { IsDerivation basis.now.closed.now.ontology derivation.old }
-    requires hands { HandsOnBy basis.now.closed.now.saturation.state.problem.forms form given fact }
-    requires two { given ≡ fact → ⊥ }
-    requires shown { AreShowingIn basis.now.closed.now.saturation derivation.old known.now given }
-    requires some { HasEdges given known.now }
+    requires hands { HandsOnBy basis.now.closed.now.saturation.state.problem.forms handing.form handing.given handing.fact }
+    requires two { handing.given ≡ handing.fact → ⊥ }
+    requires shown { AreShowingIn basis.now.closed.now.saturation derivation.old known.now handing.given }
+    requires some { HasEdges handing.given known.now }
     ensures derivation { OnOk result (IsDerivation basis.now.closed.now.ontology derivation.new) }
     ensures longer { OnOk result (Lengthens derivation.old derivation.new) }
-    ensures shown { IfOk result (λ v. AreShowingIn basis.now.closed.now.saturation derivation.new v.items fact) }
+    ensures shown { IfOk result (λ v. AreShowingIn basis.now.closed.now.saturation derivation.new v.items handing.fact) }
     ensures used { IfOk result (λ v. Uses derivation.old derivation.new (IsAmong known.now) v.items) }
 {
+    let Handing { form, given, fact } = handing;
     match (given, fact) {
         (Fact::In(class, before), Fact::In(_, now)) => {
             let Some((old, new)) = exchanged(before, now) else {
@@ -190,11 +196,11 @@ pub(crate) fn handed_on<L: LineSink>(
             Ok(numbers)
         }
         (Fact::Edge(source, property, target), Fact::Edge(source_now, _, target_now)) => {
+            let ends = Ends { source, target };
+            let edge = Edge { property, ends };
             if let Some((old, new)) = exchanged(source, source_now) {
                 let exchange = Exchange { form, old, new };
-                let numbers = source_exchanged(
-                    basis, derivation, known, exchange, property, target,
-                )?;
+                let numbers = source_exchanged(basis, derivation, known, exchange, edge)?;
                 return Ok(numbers);
             }
             let Some((old, new)) = exchanged(target, target_now) else {
@@ -202,7 +208,7 @@ pub(crate) fn handed_on<L: LineSink>(
                 unreachable!()
             };
             let exchange = Exchange { form, old, new };
-            let numbers = target_exchanged(basis, derivation, known, exchange, source, property)?;
+            let numbers = target_exchanged(basis, derivation, known, exchange, edge)?;
             Ok(numbers)
         }
         _ => {

@@ -4,27 +4,21 @@ ghost use Rattle.cert_check.specs.Derivation.{IsDerivation};
 ghost use Rattle.explain.specs.LiftedEdges.{IsStepOf, LiftsEdgeTo, ShowsLedOn};
 ghost use Rattle.explain.specs.Uses.{IsAmong, Uses};
 ghost use Rattle.explain.specs.LinesOfFacts.{AreShowingIn, Lengthens};
-ghost use Rattle.facts.specs.declared.contexts.Fact.TheVariants.{Edge};
+ghost use Rattle.facts.specs.declared.contexts.Fact.TheVariants.{Edge as EdgeFact};
 ghost use Rattle.normal_forms.specs.Properties.{IsAtOrBelow};
 ghost use Rattle.std.specs.Prelude.{◌≡◌, IfOk, OnOk};
 
 use crate::basis::Basis;
 use crate::derivation::Derivation;
+use crate::edge::{Edge, Ends};
 use crate::line::concluded;
 use crate::lines_by_fact::LineNumbers;
 use crate::sink::LineSink;
 use axioms::{Memory, PropId};
 use certificate::Rule;
-use facts::{Context, Fact};
+use facts::Fact;
 use normal_forms::{Form, Origin, PropId2};
 use normalise::Normal;
-
-/// Where an edge begins, and where it ends.
-#[derive(Clone, Copy)]
-pub(crate) struct Ends {
-    pub(crate) source: Context,
-    pub(crate) target: Context,
-}
 
 /// Where the plain property form of that number leads to, and the number of the axiom that gave it; `None` where there is no such
 /// form.
@@ -65,14 +59,7 @@ fn lifted_by<L: LineSink>(
         unreachable!()
     };
     let edge = Fact::Edge(ends.source, PropId2::Property(above), ends.target);
-    let shown = concluded(
-        basis.alloc,
-        derivation,
-        edge,
-        Rule::K12,
-        Some(axiom),
-        numbers,
-    )?;
+    let shown = concluded(derivation, edge, Rule::K12, Some(axiom), numbers)?;
     Ok(shown)
 }
 
@@ -85,20 +72,19 @@ pub(crate) fn lifted<L: LineSink>(
     basis: &Basis<'_>,
     derivation: &mut Derivation<L>,
     numbers: LineNumbers,
-    ends: Ends,
-    property: PropId2,
+    edge: Edge,
     above: PropId2,
 ) -> Result<LineNumbers, Memory>
     requires paths { basis.now.paths.now ≡ basis.now.closed.now.saturation.state.problem.forms }
     requires derivation { IsDerivation basis.now.closed.now.ontology derivation.old }
-    requires shown { AreShowingIn basis.now.closed.now.saturation derivation.old numbers.items (Edge ends.source property ends.target) }
-    requires below { IsAtOrBelow basis.now.closed.now.saturation.state.problem.forms property above }
+    requires shown { AreShowingIn basis.now.closed.now.saturation derivation.old numbers.items (EdgeFact edge.ends.source edge.property edge.ends.target) }
+    requires below { IsAtOrBelow basis.now.closed.now.saturation.state.problem.forms edge.property above }
     ensures derivation { OnOk result (IsDerivation basis.now.closed.now.ontology derivation.new) }
     ensures longer { OnOk result (Lengthens derivation.old derivation.new) }
-    ensures shown { IfOk result (λ v. AreShowingIn basis.now.closed.now.saturation derivation.new v.items (Edge ends.source above ends.target)) }
+    ensures shown { IfOk result (λ v. AreShowingIn basis.now.closed.now.saturation derivation.new v.items (EdgeFact edge.ends.source above edge.ends.target)) }
     ensures used { IfOk result (λ v. Uses derivation.old derivation.new (IsAmong numbers.items) v.items) }
 {
-    let (PropId2::Property(from), PropId2::Property(to)) = (property, above) else {
+    let (PropId2::Property(from), PropId2::Property(to)) = (edge.property, above) else {
         return Ok(numbers);
     };
     let Some(path) = basis.paths.path(basis.alloc, from, to)? else {
@@ -107,7 +93,7 @@ pub(crate) fn lifted<L: LineSink>(
     };
     let mut lines = numbers;
     for form in &path {
-        lines = lifted_by(basis, derivation, lines, ends, *form)?;
+        lines = lifted_by(basis, derivation, lines, edge.ends, *form)?;
     }
     Ok(lines)
 }

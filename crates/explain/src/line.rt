@@ -14,8 +14,6 @@ use certificate::{Conclusion, Rule, Subject};
 use engine::Closed;
 use facts::{Context, Fact, FactId};
 use normal_forms::{Class2, PropId2};
-use smallvec::SmallVec;
-use std::alloc::Global;
 
 pub(crate) fn fact_of(closed: &Closed<'_>, number: FactId) -> Fact
     requires { number.0 < length closed.now.saturation.state.facts }
@@ -54,7 +52,6 @@ pub(crate) fn conclusion(fact: Fact) -> Option<Conclusion>
 ///
 /// `Memory` where memory was refused.
 pub(crate) fn concluded<L: LineSink>(
-    alloc: Global,
     derivation: &mut Derivation<L>,
     fact: Fact,
     rule: Rule,
@@ -70,7 +67,8 @@ pub(crate) fn concluded<L: LineSink>(
         return Ok(premises);
     };
     let number = derivation.add(conclusion, rule, axiom_number, premises.as_slice())?;
-    let mut numbers = SmallVec::new(alloc);
+    let mut numbers = premises;
+    numbers.clear();
     numbers.push(number)?;
     Ok(numbers)
 }

@@ -11,7 +11,8 @@ ghost use Rattle.std.specs.Prelude.{◌≡◌, ◌<◌, IfOk, OnOk, length, ℕ}
 
 use crate::basis::Basis;
 use crate::derivation::Derivation;
-use crate::lifting::{Ends, lifted};
+use crate::edge::{Edge, Ends};
+use crate::lifting::lifted;
 use crate::line::fact_of;
 use crate::lines_by_fact::{LineNumbers, LinesByFact};
 use crate::sink::LineSink;
@@ -64,7 +65,11 @@ fn lifted_to<L: LineSink>(
     match (fact_of(basis.closed, older), property) {
         (Fact::Edge(source, below, target), Some(above)) => {
             let ends = Ends { source, target };
-            let numbers = lifted(basis, derivation, known, ends, below, above)?;
+            let edge = Edge {
+                property: below,
+                ends,
+            };
+            let numbers = lifted(basis, derivation, known, edge, above)?;
             Ok(numbers)
         }
         _ => Ok(known),

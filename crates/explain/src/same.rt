@@ -1,4 +1,5 @@
 //! Lines that say that individuals are one.
+ghost use Rattle.axioms.specs.Ontology.{Ontology};
 ghost use Rattle.cert_check.specs.Derivation.{IsDerivation};
 ghost use Rattle.explain.specs.LinesOfFacts.{Lengthens};
 ghost use Rattle.explain.specs.Paths.{IsChain};
@@ -97,16 +98,14 @@ fn next_same<L: LineSink>(
 
 // Adds the line that the first and the last of three individuals are one, and gives its number.
 fn joined<L: LineSink>(
-    basis: &Basis<'_>,
     derivation: &mut Derivation<L>,
     first: IndId,
     last: IndId,
     before: u64,
     behind: u64,
 ) -> Result<u64, Memory>
-    requires derivation { IsDerivation basis.now.closed.now.ontology derivation.old }
     requires says { (j : Ind) × SaysSame derivation.old before first j × SaysSame derivation.old behind j last }
-    ensures derivation { OnOk result (IsDerivation basis.now.closed.now.ontology derivation.new) }
+    ensures derivation { OnOk result ((o : Ontology) → IsDerivation o derivation.old → IsDerivation o derivation.new) }
     ensures longer { OnOk result (Lengthens derivation.old derivation.new) }
     ensures says { IfOk result (λ n. SaysSame derivation.new n first last) }
     ensures used { IfOk result (λ n. Uses derivation.old derivation.new (IsAmong (before ∷ behind ∷ [])) (n ∷ [])) }
@@ -138,7 +137,7 @@ pub(crate) fn same_along<L: LineSink>(
     let (mut at, mut number) = next_same(basis, derivation, first, chain[0])?;
     for place in 1..chain.len() {
         let (next, line) = next_same(basis, derivation, at, chain[place])?;
-        number = joined(basis, derivation, first, next, number, line)?;
+        number = joined(derivation, first, next, number, line)?;
         at = next;
     }
     Ok(number)

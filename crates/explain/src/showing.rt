@@ -11,11 +11,12 @@ use crate::by_form::shown_by_form;
 use crate::derivation::Derivation;
 use crate::line::{concluded, fact_of};
 use crate::lines_by_fact::{LineNumbers, LinesByFact};
+use crate::next_fact::NextFact;
 use crate::nothing::carried_back;
 use crate::sink::LineSink;
 use axioms::Memory;
 use certificate::Rule;
-use facts::{Birth, Fact, FactId, Older};
+use facts::{Fact, FactId, Older};
 use normal_forms::Class2;
 use smallvec::SmallVec;
 
@@ -33,19 +34,17 @@ fn rule(fact: Fact) -> Rule
 fn shown_without_form<L: LineSink>(
     basis: &Basis<'_>,
     derivation: &mut Derivation<L>,
-    shown: &LinesByFact,
-    fact: FactId,
-    birth: &Birth,
+    next: &NextFact<'_>,
 ) -> Result<LineNumbers, Memory>
-    requires next { IsNext basis.now.closed.now.ontology basis.now.closed.now.saturation derivation.old shown.now fact.0 (reason birth.now) }
-    requires form { (reason birth.now).form ≡ None }
-    ensures { IfOk result (λ numbers. ShowsNext basis.now.closed.now.ontology basis.now.closed.now.saturation shown.now fact.0 derivation.old derivation.new numbers.items) }
+    requires next { IsNext basis.now.closed.now.ontology basis.now.closed.now.saturation derivation.old next.now.shown.now next.now.fact.0 (reason next.now.birth.now) }
+    requires form { (reason next.now.birth.now).form ≡ None }
+    ensures { IfOk result (λ numbers. ShowsNext basis.now.closed.now.ontology basis.now.closed.now.saturation next.now.shown.now next.now.fact.0 derivation.old derivation.new numbers.items) }
 {
     basis.closed.well_formed();
-    match birth.older() {
+    match next.birth.older() {
         Older::Two(edge, class) => {
-            let walk = shown.at(basis.alloc, edge.0 as usize)?;
-            let ends = shown.at(basis.alloc, class.0 as usize)?;
+            let walk = next.shown.at(basis.alloc, edge.0 as usize)?;
+            let ends = next.shown.at(basis.alloc, class.0 as usize)?;
             let end = ends.as_slice()[0];
             let number = carried_back(basis.closed, derivation, walk.as_slice(), end)?;
             let mut numbers = SmallVec::new(basis.alloc);
@@ -53,9 +52,9 @@ fn shown_without_form<L: LineSink>(
             Ok(numbers)
         }
         _ => {
-            let fact = fact_of(basis.closed, fact);
+            let fact = fact_of(basis.closed, next.fact);
             let none = SmallVec::new(basis.alloc);
-            let numbers = concluded(basis.alloc, derivation, fact, rule(fact), None, none)?;
+            let numbers = concluded(derivation, fact, rule(fact), None, none)?;
             Ok(numbers)
         }
     }
@@ -84,13 +83,14 @@ pub(crate) fn show<L: LineSink>(
         // The fact is one of the saturation, and each has a birth.
         unreachable!()
     };
+    let next = NextFact { fact, birth, shown };
     match birth.form() {
         Some(form) => {
-            let numbers = shown_by_form(basis, derivation, shown, fact, birth, form)?;
+            let numbers = shown_by_form(basis, derivation, &next, form)?;
             Ok(numbers)
         }
         None => {
-            let numbers = shown_without_form(basis, derivation, shown, fact, birth)?;
+            let numbers = shown_without_form(basis, derivation, &next)?;
             Ok(numbers)
         }
     }

@@ -1,9 +1,11 @@
-use Rattle.std.proofs.Common.{◌≡◌, ◌++◌, ℕ, List, OnOk, map, ap, sym, ◌∙◌, subst}
+use Rattle.std.proofs.Common.{◌≡◌, ◌++◌, ℕ, List, OnOk, refl, map, ap, sym, ◌∙◌, subst}
 use Rattle.std.specs.Prelude.{codes}
+use Rattle.std.proofs.lemmas.Result.{on_ok_weaker}
 use Rattle.axioms.specs.Ontology.{axiom_tree, expressions, property_name}
 use Rattle.axioms.specs.View.{axiom_of, expr_numbers, prop_numbers}
 use Rattle.answer_texts.specs.Axioms.{axiom_text, form}
 use Rattle.answer_texts.specs.Names.{expression_text, name_text}
+use Rattle.answer_texts.proofs.More.{added}
 use Rattle.answer_texts.proofs.axiom.write_axiom.Goals as goal
 
 pub returns-in-EquivalentClasses : goal.returns-in-EquivalentClasses
@@ -32,8 +34,9 @@ returns-in-EquivalentProperties c =
     ∙ ap (λ a. axiom_text (axiom_tree o (axiom_of a))) (sym c.in-EquivalentProperties.is) in
     subst (λ (t : List ℕ). OnOk c.push_properties.result (c.push_properties.new.out.items ≡ c.args.out.now.items ++ t)) is c.push_properties.ensures
 
-pub returns-in-NegativePropertyAssertion : goal.returns-in-NegativePropertyAssertion
-returns-in-NegativePropertyAssertion c =
+pub returns-in_ok-extend_from_slice-in-NegativePropertyAssertion : goal.returns-in_ok-extend_from_slice-in-NegativePropertyAssertion
+returns-in_ok-extend_from_slice-in-NegativePropertyAssertion c =
     let is = ap (λ a. axiom_text (axiom_tree c.args.ontology.now (axiom_of a))) (sym c.in-NegativePropertyAssertion.is) in
     let push = c.push_pair-in-NegativePropertyAssertion in
-    subst (λ (t : List ℕ). OnOk push.result (push.new.out.items ≡ c.args.out.now.items ++ t)) is push.ensures
+    subst (λ (t : List ℕ). OnOk push.result (push.new.out.items ≡ c.args.out.now.items ++ t)) is
+    (on_ok_weaker push.result (λ e. added c.args.out.now.items _ _ (codes "NegativeObjectPropertyAssertion") _ _ c.in_ok-extend_from_slice-in-NegativePropertyAssertion.ensures.items e refl) push.ensures)

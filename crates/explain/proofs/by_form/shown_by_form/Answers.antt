@@ -13,22 +13,22 @@ use Rattle.explain.proofs.by_form.shown_by_form.Goals as goal
 pub returns-then-condition-eq-BY_DIFFERENT : goal.returns-then-condition-eq-BY_DIFFERENT
 returns-then-condition-eq-BY_DIFFERENT g c =
     let s = c.args.basis.now.closed.now.saturation in
-    let r = reason c.args.birth.now in
-    let (f, at) = slice_get_there s.state.facts c.args.fact.0 c.requires.next.there in
+    let r = reason c.args.next.now.birth.now in
+    let (f, at) = slice_get_there s.state.facts c.args.next.now.fact.0 c.requires.next.there in
     let twelve = sym c.condition-condition.ensures ∙ c.if-condition-eq-BY_DIFFERENT.true in
-    let rests = (born_of_different c.args.basis.now.closed.now.ontology s c.well_formed-2.ensures.saturated c.args.fact.0 r c.requires.next.birth f at c.args.number c.requires.form twelve).rests in record {
+    let rests = (born_of_different c.args.basis.now.closed.now.ontology s c.well_formed-2.ensures.saturated c.args.next.now.fact.0 r c.requires.next.birth f at c.args.number c.requires.form twelve).rests in record {
       derivation = c.in_ok-numbers-3.ensures.derivation;
       longer = c.in_ok-numbers-3.ensures.longer;
       shown = c.in_ok-numbers-3.ensures.shown;
-      used = used_of_none s c.args.shown.now c.args.fact.0 r c.requires.next.birth rests c.args.derivation.now c.shown_by_different.new.derivation [] c.in_ok-numbers-3.numbers.items c.in_ok-numbers-3.ensures.used;
+      used = used_of_none s c.args.next.now.shown.now c.args.next.now.fact.0 r c.requires.next.birth rests c.args.derivation.now c.shown_by_different.new.derivation [] c.in_ok-numbers-3.numbers.items c.in_ok-numbers-3.ensures.used;
     }
 
 pub at-step-requires : goal.at-step-requires
 at-step-requires g c =
     let s = c.args.basis.now.closed.now.saturation in
-    let (f, at) = slice_get_there s.state.facts c.args.fact.0 c.requires.next.there in
+    let (f, at) = slice_get_there s.state.facts c.args.next.now.fact.0 c.requires.next.there in
     let is = c.condition-condition.ensures in
-    let (form, at_form) = form_of_birth c.args.basis.now.closed.now.ontology s c.well_formed-2.ensures.saturated c.args.fact.0 (reason c.args.birth.now) c.requires.next.birth f at c.args.number c.requires.form
+    let (form, at_form) = form_of_birth c.args.basis.now.closed.now.ontology s c.well_formed-2.ensures.saturated c.args.next.now.fact.0 (reason c.args.next.now.birth.now) c.requires.next.birth f at c.args.number c.requires.form
     (λ e. c.if-condition-eq-BY_DIFFERENT.false (is ∙ e), λ e. c.if-condition-eq-BY_DISJOINT.false (is ∙ e)) in
     subst (λ (fs : List Form). c.args.number < length fs) (c.well_formed-2.ensures.saturated.forms ∙ sym (c.forms.ensures ∙ ap (λ (v : Listing). map form_in v.entries) c.normal.ensures))
     (slice_get_within s.state.problem.forms c.args.number form at_form)

@@ -17,18 +17,18 @@ use Rattle.explain.proofs.by_form.shown_by_inclusion.Goals as goal
 pub unreachable-requires : goal.unreachable-requires
 unreachable-requires g c =
     let s = c.args.basis.now.closed.now.saturation in
-    let (f, there) = slice_get_there s.state.facts c.args.fact.0 c.requires.next.there in
-    one_taken c.args.basis.now.closed.now.ontology s c.well_formed-2.ensures.ontology c.well_formed-2.ensures.saturated c.args.fact.0 (reason c.args.birth.now) c.requires.next.birth f there c.args.form c.requires.form c.requires.inclusion c.older.result c.older.ensures c.in_default.not-One
+    let (f, there) = slice_get_there s.state.facts c.args.next.now.fact.0 c.requires.next.there in
+    one_taken c.args.basis.now.closed.now.ontology s c.well_formed-2.ensures.ontology c.well_formed-2.ensures.saturated c.args.next.now.fact.0 (reason c.args.next.now.birth.now) c.requires.next.birth f there c.args.form c.requires.form c.requires.inclusion c.older.result c.older.ensures c.in_default.not-One
 
 -- the line that the rule makes follows
 leading : (g : Over) (c : goal.In_ok-numbers-2 g) → LeadsBy c.args.basis.now.closed.now.ontology c.args.basis.now.closed.now.saturation c.args.derivation.now c.in_ok-numbers.numbers.items c.fact_of-fact.result c.inclusion_rule-rule.result
 leading g c =
     let o = c.args.basis.now.closed.now.ontology in
     let s = c.args.basis.now.closed.now.saturation in
-    let r = reason c.args.birth.now in
+    let r = reason c.args.next.now.birth.now in
     let f = c.fact_of-fact.result in
-    let rest = rests o s c.well_formed-2.ensures.ontology c.well_formed-2.ensures.saturated c.args.fact.0 r c.requires.next.birth f c.fact_of-fact.ensures c.args.form c.requires.form c.requires.inclusion c.older.result c.older.ensures c.in-One.older c.in-One.is in
-    let to = leads_on o s c.well_formed-2.ensures.ontology c.well_formed-2.ensures.saturated c.args.fact.0 r c.requires.next.birth f c.fact_of-fact.ensures c.args.form c.requires.form c.requires.inclusion c.older.result c.older.ensures c.in-One.older c.in-One.is c.args.derivation.now c.in_ok-numbers.numbers.items
+    let rest = rests o s c.well_formed-2.ensures.ontology c.well_formed-2.ensures.saturated c.args.next.now.fact.0 r c.requires.next.birth f c.fact_of-fact.ensures c.args.form c.requires.form c.requires.inclusion c.older.result c.older.ensures c.in-One.older c.in-One.is in
+    let to = leads_on o s c.well_formed-2.ensures.ontology c.well_formed-2.ensures.saturated c.args.next.now.fact.0 r c.requires.next.birth f c.fact_of-fact.ensures c.args.form c.requires.form c.requires.inclusion c.older.result c.older.ensures c.in-One.older c.in-One.is c.args.derivation.now c.in_ok-numbers.numbers.items
     (λ h at. subst (λ ns. AreShowing (prefixes_of s.normal) c.args.derivation.now ns h) (sym c.in_ok-numbers.ensures) (c.requires.next.older r c.requires.next.birth c.in-One.older.0 rest h at)) in
     subst (LeadsBy o s c.args.derivation.now c.in_ok-numbers.numbers.items f)
     (sym (c.inclusion_rule-rule.ensures ∙ ap (λ (v : Listing). inclusion_rule (option_map origin_in (slice_get v.entries c.args.form))) c.normal.ensures)) to
@@ -37,14 +37,14 @@ pub returns : goal.returns
 returns g c =
     let o = c.args.basis.now.closed.now.ontology in
     let s = c.args.basis.now.closed.now.saturation in
-    let r = reason c.args.birth.now in
-    let shown = c.args.shown.now in
-    let only = rests_on_one o s c.well_formed-2.ensures.ontology c.well_formed-2.ensures.saturated c.args.fact.0 r c.requires.next.birth c.fact_of-fact.result c.fact_of-fact.ensures c.args.form c.requires.form c.requires.inclusion c.older.result c.older.ensures c.in-One.older c.in-One.is in record {
+    let r = reason c.args.next.now.birth.now in
+    let shown = c.args.next.now.shown.now in
+    let only = rests_on_one o s c.well_formed-2.ensures.ontology c.well_formed-2.ensures.saturated c.args.next.now.fact.0 r c.requires.next.birth c.fact_of-fact.result c.fact_of-fact.ensures c.args.form c.requires.form c.requires.inclusion c.older.result c.older.ensures c.in-One.older c.in-One.is in record {
       derivation = c.in_ok-numbers-2.ensures.derivation o (prefixes_of s.normal) c.requires.next.derivation (leading g c);
       longer = c.in_ok-numbers-2.ensures.longer;
       shown = λ f at. subst (AreShowing (prefixes_of s.normal) c.concluded.new.derivation c.in_ok-numbers-2.numbers.items) (same_Some c.fact_of-fact.result f (sym c.fact_of-fact.ensures ∙ at))
           (c.in_ok-numbers-2.ensures.shown o (prefixes_of s.normal) (leading g c));
-      used = used_from c.args.derivation.now c.concluded.new.derivation (IsAmong c.in_ok-numbers.numbers.items) (ShowsOlder s shown c.args.fact.0) c.in_ok-numbers-2.numbers.items
-          (λ k h. subst (λ ns. IsAmong ns k) (sym c.in_ok-numbers.ensures) (of_one shown c.in-One.older.0 k (subst (λ ns. IsAmongThose shown ns k) only (shows_those s shown c.args.fact.0 r c.requires.next.birth k h))))
+      used = used_from c.args.derivation.now c.concluded.new.derivation (IsAmong c.in_ok-numbers.numbers.items) (ShowsOlder s shown c.args.next.now.fact.0) c.in_ok-numbers-2.numbers.items
+          (λ k h. subst (λ ns. IsAmong ns k) (sym c.in_ok-numbers.ensures) (of_one shown c.in-One.older.0 k (subst (λ ns. IsAmongThose shown ns k) only (shows_those s shown c.args.next.now.fact.0 r c.requires.next.birth k h))))
           c.in_ok-numbers-2.ensures.used;
     }

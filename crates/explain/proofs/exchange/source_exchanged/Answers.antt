@@ -19,22 +19,22 @@ first_target-next-requires-clause-walks g c =
 
 pub index-requires : goal.index-requires
 index-requires g c =
-    let long = steps_there c.normal.result.now c.args.basis.now.closed.now.saturation.normal c.normal.ensures c.args.derivation.now c.args.walk.now c.args.property c.in_ok-steps.steps.items c.in_ok-steps.ensures (Individual c.args.exchange.old) c.args.target c.requires.shown in
+    let long = steps_there c.normal.result.now c.args.basis.now.closed.now.saturation.normal c.normal.ensures c.args.derivation.now c.args.walk.now c.args.edge.property c.in_ok-steps.steps.items c.in_ok-steps.ensures (Individual c.args.exchange.old) c.args.edge.ends.target c.requires.shown in
     omega (arith, long, c.requires.some, c.in_ok-steps.steps.ok)
 
 pub returns-clause-derivation : goal.returns-clause-derivation
 returns-clause-derivation g c =
-    let e = first_edge c.normal.result.now c.args.basis.now.closed.now.saturation.normal c.normal.ensures c.same_line.new.derivation c.args.walk.now c.args.property c.in_ok-steps.steps.items c.in_ok-steps.ensures c.requires.some c.index.result.now (Individual c.args.exchange.old) c.args.target (subject_of c.first_target-next.result)
+    let e = first_edge c.normal.result.now c.args.basis.now.closed.now.saturation.normal c.normal.ensures c.same_line.new.derivation c.args.walk.now c.args.edge.property c.in_ok-steps.steps.items c.in_ok-steps.ensures c.requires.some c.index.result.now (Individual c.args.exchange.old) c.args.edge.ends.target (subject_of c.first_target-next.result)
     (showing_grown c.in_ok-same.ensures.longer c.requires.shown) c.first_target-next.ensures in
     c.in_ok-number.ensures.derivation c.args.basis.now.closed.now.ontology c.in_ok-same.ensures.derivation
     (source_follows c.args.basis.now.closed.now.ontology c.same_line.new.derivation c.in_ok-same.same _ c.args.exchange.new c.args.exchange.old c.in_ok-same.ensures.derivation c.in_ok-same.ensures.says _ _ (e.at ∙ ap (λ (q : PropId). Some (Edge (subject_in (Individual c.args.exchange.old)) q.0 (subject_of c.first_target-next.result))) (sym c.index.ensures)))
 
 pub returns-clause-shown : goal.returns-clause-shown
 returns-clause-shown g c =
-    let e = first_edge c.normal.result.now c.args.basis.now.closed.now.saturation.normal c.normal.ensures c.same_line.new.derivation c.args.walk.now c.args.property c.in_ok-steps.steps.items c.in_ok-steps.ensures c.requires.some c.index.result.now (Individual c.args.exchange.old) c.args.target (subject_of c.first_target-next.result)
+    let e = first_edge c.normal.result.now c.args.basis.now.closed.now.saturation.normal c.normal.ensures c.same_line.new.derivation c.args.walk.now c.args.edge.property c.in_ok-steps.steps.items c.in_ok-steps.ensures c.requires.some c.index.result.now (Individual c.args.exchange.old) c.args.edge.ends.target (subject_of c.first_target-next.result)
     (showing_grown c.in_ok-same.ensures.longer c.requires.shown) c.first_target-next.ensures in
     source_shown (prefixes_of c.args.basis.now.closed.now.saturation.normal) c.same_line.new.derivation c.followed.new.derivation c.args.walk.now c.extend_from_slice.new.self.items 0 c.in_ok-number.number _ (drop 1 (steps_of e.walk_is.property)) (subject_of c.first_target-next.result)
-    c.args.exchange.new c.args.exchange.old c.args.property c.args.target e.walk_is c.in_ok-number.ensures.longer e.steps_are e.at (c.in_ok-number.ensures.says ∙ ap (λ (q : PropId). Some (Edge (subject_in (Individual c.args.exchange.new)) q.0 (subject_of c.first_target-next.result))) c.index.ensures)
+    c.args.exchange.new c.args.exchange.old c.args.edge.property c.args.edge.ends.target e.walk_is c.in_ok-number.ensures.longer e.steps_are e.at (c.in_ok-number.ensures.says ∙ ap (λ (q : PropId). Some (Edge (subject_in (Individual c.args.exchange.new)) q.0 (subject_of c.first_target-next.result))) c.index.ensures)
     (c.in_ok-extend_from_slice.ensures.ok ∙ ap₂ (λ xs ys. xs ++ ys) (c.in_ok-push.ensures.ok ∙ ap (λ ns. ns ++ c.in_ok-number.number ∷ []) c.new-numbers.ensures.items) (rest_read c.args.walk.now))
 
 pub returns-clause-used : goal.returns-clause-used

@@ -15,18 +15,18 @@ use Rattle.explain.proofs.exchange.target_exchanged.Goals as goal
 
 pub unreachable-requires : goal.unreachable-requires
 unreachable-requires g c =
-    let e = last_edge c.normal.result.now c.args.basis.now.closed.now.saturation.normal c.normal.ensures c.same_line.new.derivation c.args.walk.now c.args.property c.in_ok-steps.steps.items c.in_ok-steps.ensures c.requires.some (record { 0 = 0 }) c.args.source (Individual c.args.exchange.old)
+    let e = last_edge c.normal.result.now c.args.basis.now.closed.now.saturation.normal c.normal.ensures c.same_line.new.derivation c.args.walk.now c.args.edge.property c.in_ok-steps.steps.items c.in_ok-steps.ensures c.requires.some (record { 0 = 0 }) c.args.edge.ends.source (Individual c.args.exchange.old)
     (showing_grown c.in_ok-same.ensures.longer c.requires.shown) in
     none-some e.ends.source (ap (option_map subject_of) (sym c.in_default.is) ∙ c.source.ensures ∙ ap (option_map source_of) e.ends.at)
 
 pub index-requires : goal.index-requires
 index-requires g c =
-    let long = steps_there c.normal.result.now c.args.basis.now.closed.now.saturation.normal c.normal.ensures c.args.derivation.now c.args.walk.now c.args.property c.in_ok-steps.steps.items c.in_ok-steps.ensures c.args.source (Individual c.args.exchange.old) c.requires.shown in
+    let long = steps_there c.normal.result.now c.args.basis.now.closed.now.saturation.normal c.normal.ensures c.args.derivation.now c.args.walk.now c.args.edge.property c.in_ok-steps.steps.items c.in_ok-steps.ensures c.args.edge.ends.source (Individual c.args.exchange.old) c.requires.shown in
     omega (arith, long, c.requires.some, c.in_ok-steps.steps.ok)
 
 pub returns-clause-derivation : goal.returns-clause-derivation
 returns-clause-derivation g c =
-    let e = last_edge c.normal.result.now c.args.basis.now.closed.now.saturation.normal c.normal.ensures c.same_line.new.derivation c.args.walk.now c.args.property c.in_ok-steps.steps.items c.in_ok-steps.ensures c.requires.some c.index.result.now c.args.source (Individual c.args.exchange.old)
+    let e = last_edge c.normal.result.now c.args.basis.now.closed.now.saturation.normal c.normal.ensures c.same_line.new.derivation c.args.walk.now c.args.edge.property c.in_ok-steps.steps.items c.in_ok-steps.ensures c.requires.some c.index.result.now c.args.edge.ends.source (Individual c.args.exchange.old)
     (showing_grown c.in_ok-same.ensures.longer c.requires.shown) in
     let from : subject_of c.in-Some.before ≡ e.ends.source = same_Some (subject_of c.in-Some.before) e.ends.source (ap (option_map subject_of) (sym c.in-Some.is) ∙ c.source.ensures ∙ ap (option_map source_of) e.ends.at) in
     let step : c.index.result.now.0 ≡ e.ends.last = ap (λ (q : PropId). q.0) c.index.ensures ∙ e.step_is in
@@ -35,11 +35,11 @@ returns-clause-derivation g c =
 
 pub returns-clause-shown : goal.returns-clause-shown
 returns-clause-shown g c =
-    let e = last_edge c.normal.result.now c.args.basis.now.closed.now.saturation.normal c.normal.ensures c.same_line.new.derivation c.args.walk.now c.args.property c.in_ok-steps.steps.items c.in_ok-steps.ensures c.requires.some c.index.result.now c.args.source (Individual c.args.exchange.old)
+    let e = last_edge c.normal.result.now c.args.basis.now.closed.now.saturation.normal c.normal.ensures c.same_line.new.derivation c.args.walk.now c.args.edge.property c.in_ok-steps.steps.items c.in_ok-steps.ensures c.requires.some c.index.result.now c.args.edge.ends.source (Individual c.args.exchange.old)
     (showing_grown c.in_ok-same.ensures.longer c.requires.shown) in
     let from : subject_of c.in-Some.before ≡ e.ends.source = same_Some (subject_of c.in-Some.before) e.ends.source (ap (option_map subject_of) (sym c.in-Some.is) ∙ c.source.ensures ∙ ap (option_map source_of) e.ends.at) in
     let step : c.index.result.now.0 ≡ e.ends.last = ap (λ (q : PropId). q.0) c.index.ensures ∙ e.step_is in
-    target_shown (prefixes_of c.args.basis.now.closed.now.saturation.normal) c.same_line.new.derivation c.followed.new.derivation c.args.walk.now c.push.new.self.items 0 c.in_ok-number.number c.args.exchange.new c.args.exchange.old c.args.property c.args.source
+    target_shown (prefixes_of c.args.basis.now.closed.now.saturation.normal) c.same_line.new.derivation c.followed.new.derivation c.args.walk.now c.push.new.self.items 0 c.in_ok-number.number c.args.exchange.new c.args.exchange.old c.args.edge.property c.args.edge.ends.source
     e.walk_is e.ends c.in_ok-number.ensures.longer (c.in_ok-number.ensures.says ∙ ap₂ (λ x r. Some (Edge x r (subject_in (Individual c.args.exchange.new)))) from step)
     (c.in_ok-push.ensures.ok ∙ ap (λ ns. ns ++ c.in_ok-number.number ∷ []) (c.in_ok-extend_from_slice.ensures.ok ∙ ap (λ ns. ns ++ take (length c.args.walk.now - 1) c.args.walk.now) c.new-numbers.ensures.items))
 

@@ -25,8 +25,8 @@ loop-form-preserved g c =
 pub returns-in_default-clause-shown : goal.returns-in_default-clause-shown
 returns-in_default-clause-shown g c =
     let forms = c.args.basis.now.closed.now.saturation.state.problem.forms in
-    let same : c.args.property ≡ c.args.above = elim c.in_default.branch [
-      | in_default-via-in-Property+in_default w ↦ stays forms w.in_default.field-0-1 c.args.property c.args.above c.requires.below (inr w.in_default.is-1)
-      | in_default-via-in_default w ↦ stays forms w.in_default.field-0-0 c.args.property c.args.above c.requires.below (inl w.in_default.is-0)
+    let same : c.args.edge.property ≡ c.args.above = elim c.in_default.branch [
+      | in_default-via-in-Property+in_default w ↦ stays forms w.in_default.field-0-1 c.args.edge.property c.args.above c.requires.below (inr w.in_default.is-1)
+      | in_default-via-in_default w ↦ stays forms w.in_default.field-0-0 c.args.edge.property c.args.above c.requires.below (inl w.in_default.is-0)
     ] in
-    subst (λ (q : PropId2). AreShowing (prefixes_of c.args.basis.now.closed.now.saturation.normal) c.args.derivation.now c.args.numbers.items (Edge c.args.ends.source q c.args.ends.target)) same c.requires.shown
+    subst (λ (q : PropId2). AreShowing (prefixes_of c.args.basis.now.closed.now.saturation.normal) c.args.derivation.now c.args.numbers.items (Edge c.args.edge.ends.source q c.args.edge.ends.target)) same c.requires.shown

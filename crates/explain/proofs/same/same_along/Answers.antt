@@ -14,14 +14,15 @@ loop-place-init g c =
       used = c.in_ok-at.ensures.used;
     }
 
-pub joined-requires-clause-says : goal.joined-requires-clause-says
-joined-requires-clause-says g c =
-    (c.loop-place.at, says_grown c.loop-place.number c.args.first c.loop-place.at c.in_ok-next.ensures.longer c.loop-place.invariant.says, c.in_ok-next.ensures.says)
+pub joined-requires : goal.joined-requires
+joined-requires g c = record {
+  says = (c.loop-place.at, says_grown c.loop-place.number c.args.first c.loop-place.at c.in_ok-next.ensures.longer c.loop-place.invariant.says, c.in_ok-next.ensures.says);
+}
 
 pub loop-place-preserved : goal.loop-place-preserved
 loop-place-preserved g c =
     let forms = c.args.basis.now.closed.now.saturation.state.problem.forms in record {
-      derivation = c.in_ok-number.ensures.derivation;
+      derivation = c.in_ok-number.ensures.derivation c.args.basis.now.closed.now.ontology c.in_ok-next.ensures.derivation;
       longer = lengthened_twice c.loop-place.invariant.longer (lengthened_twice c.in_ok-next.ensures.longer c.in_ok-number.ensures.longer);
       chain = λ j chain. chain_next forms c.loop-place.at c.args.chain.now c.loop-place.place 0 c.in_ok-next.next (omega (arith, c.loop-place-test.true)) c.in_ok-next.ensures.only j (c.loop-place.invariant.chain j chain);
       says = c.in_ok-number.ensures.says;
