@@ -3,7 +3,6 @@ ghost use Rattle.answers.specs.Conditions.{AreConditions, IsLacking, IsRightOf, 
 ghost use Rattle.answers.specs.Explanations.{IsKnown};
 ghost use Rattle.answers.specs.Findings.{FollowsByFacts, IsFactOf, IsLackingOf};
 ghost use Rattle.axioms.specs.View.{expr_numbers};
-ghost use Rattle.closure.specs.Closure.{Expression, IsRoot};
 ghost use Rattle.closure.specs.Denotations.{context_of};
 ghost use Rattle.std.specs.Prelude.{◌↔◌, ◌≡◌, All, Contains, IfOk, IfSome, IsSome, IsTrue, map};
 

@@ -13,7 +13,7 @@ use crate::marks::{marks_among, marks_of};
 use crate::names::names_in_order;
 use crate::nearest::far_marks;
 use crate::selection::Selection;
-use axioms::{ExprId, Memory, Ontology};
+use axioms::{ExprId, Memory};
 use engine::Indexed;
 use number_sets::Row;
 use program::Side;

@@ -13,7 +13,7 @@ use crate::ontology::Ontology;
 use crate::terms::{Axiom, Expr};
 use device::Memory;
 use keyed_hash::{KeyedState, NumberedSet};
-use std::alloc::{AllocError, Global};
+use std::alloc::Global;
 
 /// The IRI of `owl:Thing` (OWL 2 Structural Specification, section 5.1).
 pub const OWL_THING: &str = "http://www.w3.org/2002/07/owl#Thing";

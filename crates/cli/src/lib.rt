@@ -3,7 +3,6 @@
 
 ghost use Rattle.cli.specs.Filing.{FiledConversationsAreCalls, FiledConversationsAreOneDocument};
 ghost use Rattle.cli.specs.SpokenSessions.{SpokenSessionsAreAnswered};
-ghost use Rattle.receiving.specs.Theorems.{AcceptedFilesAreRight, AcceptedTextsAreRight};
 ghost use Rattle.cli.specs.Theorems.{EveryDocumentIsClassified, InferredAxiomsSayTheSame, ReadDocumentsAreNoStop, WhatIsWrittenIsAccepted, WrittenFilesAreAccepted};
 ghost use Rattle.cli.specs.WordsOfRuns.{WordsOfCheckCheck, WordsOfClassifyClassify, VersionIsAWord, WordsOfInferInfer, WordsOfRestrictRestrict, WordsOfVersionTell};
 

@@ -4,7 +4,6 @@ ghost use Rattle.telling.specs.Devices.{seen};
 ghost use Rattle.session.specs.Edits.{Reply, IsCall, Resume};
 ghost use Rattle.telling.specs.Progress.{IsProgress};
 ghost use Rattle.session.specs.Sessions.{IsSession, KeepsText};
-ghost use Rattle.std.specs.Prelude.{◌≡◌};
 
 use device::Sink;
 use session::{SLICE, Session, Stop, tell_drawn};

@@ -9,7 +9,7 @@ use crate::elements::Elements;
 use crate::groups::groups_of;
 use crate::individuals::individual_elements;
 use crate::rows::add_pair_rows;
-use axioms::{Memory, Ontology};
+use axioms::Memory;
 use certificate::FormatType;
 use certificate_text::LineText;
 use engine::Closed;

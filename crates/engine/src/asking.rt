@@ -3,7 +3,7 @@ ghost use Rattle.axioms.specs.Growth.{Numbers};
 ghost use Rattle.engine.specs.Saturations.{IsFinished, IsSound, KeepsFacts};
 ghost use Rattle.normalise.specs.Growth.{Grows};
 ghost use Rattle.normalise.specs.Roots.{KeepsNames};
-ghost use Rattle.std.specs.Prelude.{◌≡◌, ◌<◌, ℕ, IfOk, length};
+ghost use Rattle.std.specs.Prelude.{◌<◌, ℕ, IfOk, length};
 
 use crate::saturation::Saturation;
 use axioms::{ExprId, Memory, Ontology};

@@ -1,6 +1,5 @@
 //! All that an ontology leads to, as who answers reads it.
 ghost use Rattle.axioms.specs.WellFormedness.{IsOntology};
-ghost use Rattle.engine.specs.Closed.{Closed as Closed2};
 ghost use Rattle.engine.specs.Saturations.{IsSaturated};
 ghost use Rattle.facts.specs.Births.{reason};
 ghost use Rattle.inference.specs.PropertyClosures.{IsClosureOf};
@@ -45,7 +44,7 @@ impl<'a> Model for Closed<'a> {
 }
 
 impl<'a> Closed<'a> {
-    /// What gives memory to what is made of it.
+    /// What gives memory to what is made of it. There is one value of a `Global`, so that nothing is to be said of it.
     pub fn allocator(&self) -> Global {
         self.alloc
     }

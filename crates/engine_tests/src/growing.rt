@@ -11,7 +11,7 @@ use crate::problems::{
     ALL_GO_ON, Born, CLASSES_MADE_DISJOINT, ONE_ENDS, PROBLEMS, Problem, SUBCLASS_STATED_AGAIN,
     SUBCLASSES_IN_A_CIRCLE, TWO_SUBCLASSES,
 };
-use acts::{ALL, ALL_LISTS, AT_ONCE, Act, SCRIPTS};
+use acts::{ALL, ALL_LISTS, Act, SCRIPTS};
 use axioms::Memory;
 use facts::{FactId, Older, StoredFact};
 use normal_forms::FormList;

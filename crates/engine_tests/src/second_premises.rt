@@ -3,7 +3,7 @@ ghost use Rattle.std.specs.Prelude.{◌≡◌, []};
 
 use crate::adding::add;
 use crate::problems::{ALL_GO_ON, ONE_ENDS, Problem};
-use facts::{Fact, FactId, Older};
+use facts::{FactId, Older};
 use normal_forms::FormList;
 use saturate::{State, Stop};
 use std::alloc::Global;

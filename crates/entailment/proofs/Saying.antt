@@ -1,18 +1,18 @@
 -- The parts of an axiom say together what it says.
-use Rattle.std.proofs.Common.{◌≡◌, ◌↔◌, ℕ, zero, suc, ◌+◌, ◌<◌, List, [], ◌∷◌, ◌++◌, Bool, true, false, All, AllPairs, get_or, length, map, refl, sym, ap, ◌∙◌, subst, subst₂, arith}
+use Rattle.std.proofs.Common.{◌≡◌, ◌↔◌, ℕ, zero, suc, ◌<◌, List, [], ◌∷◌, Bool, true, false, All, AllPairs, get_or, length, map, refl, sym, ◌∙◌, subst, subst₂, arith}
 use Rattle.std.specs.List.{flat_map, range_with_len}
 use Rattle.std.proofs.lemmas.List.{get_or-map, length-map}
 use Rattle.std.proofs.lemmas.List.Elements.{All-append, All-cons, All-head, All-nil, All-tail}
 use Rattle.std.proofs.lemmas.List.FromFn.{get_or-range_with_len, length-range_with_len}
-use Rattle.axioms.specs.Expression.{ClassExpression, Iri}
-use Rattle.axioms.specs.Ontology.{Ontology, Axiom, EquivalentClasses, DisjointClasses, EquivalentProperties, SameIndividuals, DifferentIndividuals, SubClass, SubProperty, Domain, Transitive, Reflexive, ClassAssertion, PropertyAssertion, NegativePropertyAssertion, axiom_tree, axiom_trees, expression, individual_name, property_name}
+use Rattle.axioms.specs.Expression.{Iri}
+use Rattle.axioms.specs.Ontology.{Ontology, Axiom, EquivalentClasses, DisjointClasses, EquivalentProperties, SameIndividuals, DifferentIndividuals, SubClass, SubProperty, Domain, Transitive, Reflexive, ClassAssertion, PropertyAssertion, NegativePropertyAssertion, axiom_trees, expression, individual_name, property_name}
 use Rattle.entailment.proofs.Moving.{all_back, all_front}
 use Rattle.entailment.specs.Claims.{IsEntailed, claimed}
 use Rattle.entailment.specs.Parts.{parts_of}
 use Rattle.entailment.specs.Testers.{IsFollowing}
 use Rattle.entailment.specs.declared.claim.Claim.{Claim}
 use Rattle.entailment.specs.declared.claim.Claim.TheVariants.{Below, Apart, Sources, Path, Loops, Member, Joined, Unjoined, One, Two}
-use Rattle.interpretation_spec.specs.Interpretation.{HasPair, Interpretation, IsApart, IsModel, IsOtherElement, IsSame, IsSameElement, IsSameProperty, IsSubProperty, Satisfies}
+use Rattle.interpretation_spec.specs.Interpretation.{HasPair, Interpretation, IsApart, IsModel, IsOtherElement, IsSame, IsSameElement, IsSameProperty, IsSubProperty}
 use Rattle.lemmas.proofs.Pairs.{AllPairs-from_map}
 
 -- ---- lists

@@ -1,5 +1,5 @@
 -- What the test of one claim tells.
-use Rattle.std.proofs.Common.{◌≡◌, ◌↔◌, ℕ, ◌+◌, ◌<◌, ◌⊎◌, inl, inr, ⊎_elim, [], ◌∷◌, Bool, true, Ok, length, refl, sym, subst}
+use Rattle.std.proofs.Common.{◌≡◌, ◌↔◌, ℕ, ◌+◌, ◌<◌, ◌⊎◌, inl, ⊎_elim, [], ◌∷◌, Bool, true, Ok, length, refl, sym, subst}
 use Rattle.axioms.specs.Growth.{most_names}
 use Rattle.axioms.specs.Ontology.{Ontology, Axiom}
 use Rattle.engine.specs.Saturations.{HasMoreFactsThan}

@@ -5,7 +5,7 @@ ghost use Rattle.axioms.specs.WellFormedness.{IsAxiomOf};
 ghost use Rattle.axioms.specs.declared.fault.BuildFault.TheVariants as faults;
 ghost use Rattle.entailment.specs.Claims.{IsClaimOf};
 ghost use Rattle.entailment.specs.Tests.{IsTestOf, added_individuals, assumed, path_from, tested_class, tested_individual, with_axioms};
-ghost use Rattle.std.specs.Prelude.{◌≡◌, ◌+◌, ◌<◌, ◌≤◌, ◌^◌, ◌∷◌, [], All, Err, IfOk, OnOk, length};
+ghost use Rattle.std.specs.Prelude.{◌≡◌, ◌+◌, ◌<◌, ◌^◌, ◌∷◌, [], All, Err, IfOk, OnOk, length};
 
 use crate::claim::Claim;
 use crate::individuals::add_individuals;

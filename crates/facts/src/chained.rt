@@ -1,7 +1,7 @@
 //! Facts in order, those with one key linked.
 ghost use Rattle.facts.specs.Chains.{IsNewest, key_of};
 ghost use Rattle.facts.specs.declared.contexts.Fact.{Fact as AFact};
-ghost use Rattle.std.specs.Prelude.{◌≡◌, ◌<◌, ◌≤◌, ◌-◌, ◌^◌, ◌++◌, ◌∷◌, [], length, slice_get, take, Contains, IfOk, IfSome, IsNone, OnErr, OnOk, Some};
+ghost use Rattle.std.specs.Prelude.{◌≡◌, ◌<◌, ◌-◌, ◌^◌, ◌++◌, ◌∷◌, [], length, slice_get, take, Contains, IfOk, IfSome, IsNone, OnErr, OnOk, Some};
 
 use crate::contexts::Fact;
 use crate::homes::{Key, key_of};

@@ -6,7 +6,7 @@ ghost use Rattle.facts.specs.declared.contexts.Fact.{Fact as AFact};
 ghost use Rattle.facts.specs.declared.homes.Key.TheVariants as keys;
 ghost use Rattle.facts.specs.declared.seeds.Seeds.{Seeds as TheSeeds};
 ghost use Rattle.std.specs.List.{AllZip};
-ghost use Rattle.std.specs.Prelude.{◌≡◌, ◌<◌, ◌≤◌, ◌++◌, ◌∷◌, [], suc, List, length, slice_get, slice_index, Contains, IfOk, IfSome, IsNone, OnOk, Some};
+ghost use Rattle.std.specs.Prelude.{◌≡◌, ◌<◌, ◌++◌, ◌∷◌, [], List, length, slice_get, slice_index, Contains, IfOk, IfSome, IsNone, OnOk, Some};
 
 use crate::chained::ChainedFacts;
 use crate::contexts::Fact;

@@ -1,5 +1,5 @@
 -- The IRIs of prefixes that own their texts.
-use Rattle.std.proofs.Common.{List, Contains, map}
+use Rattle.std.proofs.Common.{Contains, map}
 use Rattle.std.specs.Prelude.{string_bytes}
 use Rattle.std.proofs.lemmas.List.Elements.{Contains-append_right}
 use Rattle.lemmas.proofs.Mapped.{Contains-map}

@@ -1,5 +1,5 @@
 //! What an edge gives with the classes at its target, found by the restrictions on its property.
-ghost use Rattle.std.specs.Prelude.{◌≡◌, ℕ, IfSome, IsNone, Some, slice_get};
+ghost use Rattle.std.specs.Prelude.{◌≡◌, IfSome, IsNone, Some, slice_get};
 ghost use Rattle.axioms.specs.declared.ids.PropId.{PropId as PropId3};
 ghost use Rattle.normal_forms.specs.declared.forms.Class2.{Class2 as Class3};
 ghost use Rattle.normal_forms.specs.declared.forms.Form.TheVariants as the_forms;

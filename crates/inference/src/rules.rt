@@ -1,5 +1,5 @@
 //! What facts give, added to the facts.
-ghost use Rattle.std.specs.Prelude.{◌≡◌, ◌<◌, [], ◌∷◌, Some, Err, length, slice_get, Contains, OnOk};
+ghost use Rattle.std.specs.Prelude.{◌≡◌, ◌<◌, [], Some, Err, length, slice_get, Contains, OnOk};
 ghost use Rattle.facts.specs.Births.{IsBirth};
 ghost use Rattle.facts.specs.Closure.{IsLoop};
 ghost use Rattle.inference.specs.Derivations.{IsDerived};

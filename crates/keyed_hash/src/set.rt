@@ -1,7 +1,7 @@
 //! Members in order, found by their hashes: `indexmap`'s set with numbers of 32 bits.
 ghost use Rattle.keyed_hash.specs.Numbering.{insert_key, room_in};
 ghost use Rattle.std.specs.List.{list_any, AllZip};
-ghost use Rattle.std.specs.Prelude.{◌≡◌, ◌+◌, ◌<◌, ◌^◌, ℕ, true, false, not, [], ◌∷◌, ◌++◌, length, if◌then◌else◌, option_copied, slice_get, take, IfNone, IfOk, IfSome, OnErr, OnOk, Some};
+ghost use Rattle.std.specs.Prelude.{◌≡◌, ◌+◌, ◌<◌, ◌^◌, true, false, not, [], ◌∷◌, ◌++◌, length, if◌then◌else◌, option_copied, slice_get, take, IfNone, IfOk, IfSome, OnErr, OnOk, Some};
 
 use crate::state::KeyedState;
 use indexmap::{Equivalent, IndexSet};

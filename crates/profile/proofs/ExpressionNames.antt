@@ -8,9 +8,8 @@ use Rattle.axioms.specs.Ontology.{Names, intersection}
 use Rattle.axioms.specs.Numbering.{class_name, parts, properties_in}
 use Rattle.fs_parser.specs.Tree.{Tree, Trees, Name, Form, Empty, Then}
 use Rattle.program.specs.declared.version.Version.{Version}
-use Rattle.shapes.specs.Faults.{faults, faults_among, faults_inside}
+use Rattle.shapes.specs.Faults.{faults_among, faults_inside}
 use Rattle.shapes.specs.Shapes.{Operands, Each, Many, operands_of}
-use Rattle.shapes.specs.declared.expected.Expected.{Expected}
 use Rattle.shapes.specs.declared.expected.Expected.TheVariants.{ClassExpression, Property}
 use Rattle.profile.specs.Statements.{class_of, classes_of, iri_of, some_values}
 use Rattle.profile.proofs.AnyNames.{any_names}

@@ -1,7 +1,6 @@
 //! Runs of a check and of a conversion over files.
 ghost use Rattle.receiving.specs.Files.{ChecksFiles};
 ghost use Rattle.receiving.specs.Runs.{IsCheckTold, IsCheckedFiles, IsConvertTold, IsUnconvertedTold, RunsCheck, RunsConversion};
-ghost use Rattle.std.specs.Prelude.{◌≡◌};
 ghost use Rattle.telling.specs.Devices.{seen};
 ghost use Rattle.telling.specs.Printing.{outputs};
 ghost use Rattle.telling.specs.Progress.{IsProgress};

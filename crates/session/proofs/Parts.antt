@@ -1,5 +1,4 @@
 -- The parts of conditions that an answer has are expressions of the ontology.
-use Rattle.std.proofs.Common.{ℕ}
 use Rattle.axioms.specs.Expression.{Iri}
 use Rattle.axioms.specs.Ontology.{Ontology}
 use Rattle.axioms.specs.WellFormedness.{IsOntology}

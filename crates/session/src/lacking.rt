@@ -1,5 +1,4 @@
 //! What is lacked, as lines.
-ghost use Rattle.answer_texts.specs.Conditions.{part_line};
 ghost use Rattle.session.specs.TextAnswers.{condition_lines, conditions_text, lacking_text, part_lines};
 ghost use Rattle.session.specs.Texts.{IsWithin};
 ghost use Rattle.std.specs.List.{flat_map};

@@ -7,7 +7,7 @@ ghost use Rattle.session.specs.Additions.{IsWithin};
 ghost use Rattle.entailment.specs.FactCounts.{HasNoMoreFactsThan};
 ghost use Rattle.session.specs.Queries.{AreAnswersFor, IsQueryAnswer, IsQueryRefusal, RefusesText, names_in};
 ghost use Rattle.session.specs.Sessions.{as_read};
-ghost use Rattle.std.specs.Prelude.{◌≡◌, ◌<◌, ◌≤◌, ◌∷◌, [], ℕ, List, Err, IfErr, IfOk, OnOk, length};
+ghost use Rattle.std.specs.Prelude.{◌≡◌, ◌<◌, ◌∷◌, [], ℕ, List, Err, IfErr, IfOk, OnOk, length};
 
 use crate::query_fault::QueryFault;
 use crate::session::Session;

@@ -1,6 +1,6 @@
 //! What a session answers, as replies.
 ghost use Rattle.speech.specs.Answers.{IsAskTold, IsDoneWith, IsEntailedTold, IsEntailsTold, IsFaultTold, IsFoundTold, IsQueryTold, Tells, consistency as word_of, entailment, found, unfiled, unfinished, unknown_told};
-ghost use Rattle.std.specs.Prelude.{◌≡◌, string_bytes};
+ghost use Rattle.std.specs.Prelude.{◌≡◌};
 
 use crate::messages::question_message;
 use crate::reply::Reply;

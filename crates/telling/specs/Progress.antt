@@ -1,5 +1,5 @@
 -- Progress that is told, a line for each stage.
-use Rattle.std.specs.Prelude.{◌≡◌, ◌⊎◌, ◌-◌, ◌++◌, ℕ, List, [], ◌∷◌, Bool, true, false, codes}
+use Rattle.std.specs.Prelude.{◌≡◌, ◌⊎◌, ◌++◌, ℕ, List, [], ◌∷◌, Bool, true, false, codes}
 use Rattle.std.specs.Fmt.{decimal}
 use Rattle.telling.specs.Devices.{Device, FailsIn, Takes}
 use Rattle.telling.specs.declared.progress.Stage.{Stage}

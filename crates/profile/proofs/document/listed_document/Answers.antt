@@ -4,7 +4,7 @@ use Rattle.fs_lexer.specs.declared.token.Token.{Token}
 use Rattle.fs_parser.specs.View.{tokens_of}
 use Rattle.profile.specs.declared.fault.DocumentFault.{DocumentFault}
 use Rattle.profile.specs.Faults.{IsOfForms, Refuses}
-use Rattle.profile.proofs.Readings.{of_forms, of_tokens, parse_fault}
+use Rattle.profile.proofs.Readings.{of_forms, parse_fault}
 use Rattle.profile.proofs.document.listed_document.Goals as goal
 
 pub returns-clause-refused : goal.returns-clause-refused

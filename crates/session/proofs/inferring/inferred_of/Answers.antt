@@ -1,4 +1,4 @@
-use Rattle.std.proofs.Common.{◌≡◌, ap, IfOk, List, ℕ, length, subst}
+use Rattle.std.proofs.Common.{◌≡◌, ap, IfOk, ℕ, length, subst}
 use Rattle.axioms.specs.Ontology.{Ontology}
 use Rattle.engine.specs.Saturations.{Saturated, as_ended}
 use Rattle.session.specs.Inferences.{IsInferred}

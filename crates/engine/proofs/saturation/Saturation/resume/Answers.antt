@@ -1,4 +1,3 @@
-use Rattle.std.proofs.Common.{◌<◌, ◌^◌, length}
 use Rattle.std.proofs.lemmas.Result.{on_ok_weaker}
 use Rattle.engine.proofs.Saturating.{has_more, is_saturated, still_sound}
 use Rattle.engine.proofs.saturation.Saturation.resume.Goals as goal

@@ -1,4 +1,4 @@
-use Rattle.std.proofs.Common.{◌≡◌, length}
+use Rattle.std.proofs.Common.{length}
 use Rattle.std.proofs.lemmas.Option.{slice_get_within}
 use Rattle.saturate.proofs.Runs.{each_served}
 use Rattle.saturate.proofs.state.State.all_edges_from.Goals as goal

@@ -1,7 +1,6 @@
 use Rattle.std.proofs.Common.{map, filter, length, not, refl, sym, ap, subst, ◌∙◌}
 use Rattle.std.specs.List.{list_any}
 use Rattle.std.specs.String.{string_bytes}
-use Rattle.number_sets.specs.Members.{has}
 use Rattle.taxonomy.specs.Relation.{is_listed}
 use Rattle.taxonomy.specs.Superclasses.{is_among, rows_of, IsSetOf}
 use Rattle.taxonomy.specs.Texts.{by_name, groups, in_byte_order, is_strictly_above, least_among, least_groups, sorted}
