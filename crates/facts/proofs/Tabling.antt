@@ -1,5 +1,5 @@
 -- Tables of facts: slots of homes, and marks, with one fact more, one home more, or fewer facts.
-use Rattle.std.proofs.Common.{◌≡◌, ◌≢◌, ℕ, zero, suc, ◌+◌, inl, inr, List, [], ◌∷◌, ◌++◌, length, get_or, set, take, slice_get, None, Some, Contains, refl, sym, ap, ◌∙◌, subst, arith}
+use Rattle.std.proofs.Common.{◌≡◌, ◌≢◌, ℕ, zero, suc, ◌+◌, ◌<◌, inl, inr, List, [], ◌∷◌, ◌++◌, length, get_or, set, take, slice_get, None, Some, Contains, refl, sym, ap, ◌∙◌, subst, arith}
 use Rattle.std.specs.List.{AllZip}
 use Rattle.std.proofs.lemmas.Bool.{cases_eq}
 use Rattle.std.proofs.lemmas.List.{length_push}
@@ -8,6 +8,7 @@ use Rattle.std.proofs.lemmas.Option.{none-some, same_Some, slice_get_within}
 use Rattle.lemmas.proofs.Members.{Contains-one, slice_get-from_Contains}
 use Rattle.lemmas.proofs.Places.{keeps_push, slice_get_push, slice_get_push_cases, slice_get_take}
 use Rattle.facts.specs.declared.contexts.Fact.{Fact}
+use Rattle.facts.specs.declared.links.TheConstants.{MANY}
 use Rattle.facts.specs.declared.marks.Marks.{Marks}
 use Rattle.facts.specs.declared.seeds.Seeds.{Seeds}
 use Rattle.facts.specs.declared.slots.Slots.{Slots}
@@ -18,7 +19,7 @@ use Rattle.facts.proofs.Placing.{read_at, same_table, set_elsewhere, set_here}
 
 -- homes lead to slots that hold their facts
 abbrev pub Lead : Seeds → List Fact → List ℕ → List Slots → Type 0
-Lead seeds facts numbers slots = (home place : ℕ) → get_or numbers home 0 ≡ suc place → HasHome seeds facts slots home place
+Lead seeds facts numbers slots = (home place : ℕ) → get_or numbers home 0 ≡ place + MANY → HasHome seeds facts slots home place
 
 -- the slots that are read where a home leads
 pub read_slots : (slots : List Slots) (place : ℕ) (table read : Slots) → slice_get slots place ≡ Some table → read ≡ get_or slots place read → table ≡ read
@@ -53,7 +54,7 @@ lead_grown seeds facts numbers slots place old new there has still leads home p 
 
 -- a fact more, which the slots of its home hold
 pub lead_push : (seeds : Seeds) (facts : List Fact) (numbers : List ℕ) (slots : List Slots) (place : ℕ) (old new : Slots) (fact : Fact) →
-    get_or numbers (home_of fact) 0 ≡ suc place → slice_get slots place ≡ Some old → HasSlots new → StillHolds seeds facts old new → Holds seeds new fact (length facts) →
+    get_or numbers (home_of fact) 0 ≡ place + MANY → slice_get slots place ≡ Some old → HasSlots new → StillHolds seeds facts old new → Holds seeds new fact (length facts) →
     Lead seeds facts numbers slots → Lead seeds (facts ++ fact ∷ []) numbers (set slots place new)
 lead_push seeds facts numbers slots place old new fact leads_here there has still holds leads home p is =
     let was = leads home p is in
@@ -79,7 +80,7 @@ lead_push seeds facts numbers slots place old new fact leads_here there has stil
     ]
 
 -- a fact more, whose home leads nowhere
-pub lead_other : (seeds : Seeds) (facts : List Fact) (numbers : List ℕ) (slots : List Slots) (fact : Fact) → get_or numbers (home_of fact) 0 ≡ 0 →
+pub lead_other : (seeds : Seeds) (facts : List Fact) (numbers : List ℕ) (slots : List Slots) (fact : Fact) → get_or numbers (home_of fact) 0 < MANY →
     Lead seeds facts numbers slots → Lead seeds (facts ++ fact ∷ []) numbers slots
 lead_other seeds facts numbers slots fact nowhere leads home p is =
     let was = leads home p is in
@@ -95,7 +96,7 @@ lead_other seeds facts numbers slots fact nowhere leads home p is =
 
 -- slots more, to which a home leads
 pub lead_more : (seeds : Seeds) (facts : List Fact) (numbers numbers' : List ℕ) (slots : List Slots) (home : ℕ) (table : Slots) → HasSlots table → HoldHome seeds facts home table →
-    get_or numbers' home 0 ≡ suc (length slots) → ((i : ℕ) → i ≢ home → get_or numbers' i 0 ≡ get_or numbers i 0) → Lead seeds facts numbers slots → Lead seeds facts numbers' (slots ++ table ∷ [])
+    get_or numbers' home 0 ≡ length slots + MANY → ((i : ℕ) → i ≢ home → get_or numbers' i 0 ≡ get_or numbers i 0) → Lead seeds facts numbers slots → Lead seeds facts numbers' (slots ++ table ∷ [])
 lead_more seeds facts numbers numbers' slots home table has holds here others leads h p is =
     elim (cases_eq h home) [
       | inl e ↦

@@ -1,5 +1,5 @@
 -- A table of facts: linked by home, some homes with slots, and the facts of one home found by their ends.
-use Rattle.std.specs.Prelude.{◌≡◌, ℕ, suc, List, length, slice_index, slice_get, Some}
+use Rattle.std.specs.Prelude.{◌≡◌, ℕ, ◌+◌, List, length, slice_index, slice_get, Some}
 use Rattle.std.specs.List.{Contains}
 use Rattle.axioms.specs.WellFormedness.{AreDistinct}
 use Rattle.facts.specs.Chains.{home_of, Chained}
@@ -7,6 +7,7 @@ use Rattle.facts.specs.Slots.{HasSlots, Holds}
 use Rattle.facts.specs.declared.contexts.Fact.{Fact}
 use Rattle.facts.specs.declared.homes.Key.TheVariants.{Home}
 use Rattle.facts.specs.declared.links.Links.{Links}
+use Rattle.facts.specs.declared.links.TheConstants.{MANY}
 use Rattle.facts.specs.declared.marks.Marks.{Marks}
 use Rattle.facts.specs.declared.seeds.Seeds.{Seeds}
 use Rattle.facts.specs.declared.slots.Slots.{Slots}
@@ -22,9 +23,9 @@ pub record HasHome (seeds : Seeds) (facts : List Fact) (slots : List Slots) (hom
   pub has : HasSlots table
   pub holds : HoldHome seeds facts home table
 
--- the slots that homes lead to hold the facts of each
+-- the slots that homes lead to, by numbers from MANY on, hold the facts of each
 abbrev pub AreLinked : Seeds → List Fact → Links → Type 0
-AreLinked seeds facts links = (home place : ℕ) → slice_index links.numbers.items home ≡ suc place → HasHome seeds facts links.slots.items home place
+AreLinked seeds facts links = (home place : ℕ) → slice_index links.numbers.items home ≡ place + MANY → HasHome seeds facts links.slots.items home place
 
 -- the facts that are marked stand at their places, and are all those of the owner, if there is one
 pub record AreMarked (facts : List Fact) (marks : Marks) : Type 0 where

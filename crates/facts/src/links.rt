@@ -6,7 +6,7 @@ ghost use Rattle.facts.specs.declared.contexts.Fact.{Fact as AFact};
 ghost use Rattle.facts.specs.declared.homes.Key.TheVariants as keys;
 ghost use Rattle.facts.specs.declared.seeds.Seeds.{Seeds as TheSeeds};
 ghost use Rattle.std.specs.List.{AllZip};
-ghost use Rattle.std.specs.Prelude.{◌≡◌, ◌<◌, ◌++◌, ◌∷◌, [], List, length, slice_get, slice_index, Contains, IfOk, IfSome, IsNone, OnOk, Some};
+ghost use Rattle.std.specs.Prelude.{◌≡◌, ◌↔◌, ◌+◌, ◌<◌, ◌≤◌, ◌++◌, ◌∷◌, [], List, length, slice_get, slice_index, Contains, IfOk, IfSome, IsNone, IsTrue, OnOk, Some};
 
 use crate::chained::ChainedFacts;
 use crate::contexts::Fact;
@@ -18,10 +18,13 @@ use crate::stored::StoredFact;
 use axioms::Memory;
 use std::alloc::Global;
 
-/// Slots of some homes, by which their facts are found.
+/// A home in which walks have passed so many facts gets slots.
+pub(crate) const MANY: u32 = 128;
+
+/// Slots of some homes, by which their facts are found, and how far others were walked.
 #[derive(Drop)]
 pub(crate) struct Links {
-    // by home one more than the place of its slots, or 0
+    // by home how many facts walks have passed there, fewer than MANY, or MANY more than the place of its slots
     numbers: Vec<u32>,
     slots: Vec<Slots>,
 }
@@ -73,7 +76,7 @@ impl Links {
         Ok(Links { numbers, slots })
     }
 
-    /// One more than the place of the slots of the home, or 0 where it has none.
+    /// `MANY` more than the place of the slots of the home, or how many facts walks have passed there, where it has none.
     #[inline(always)]
     pub(crate) fn of(&self, home: usize) -> u32
         ensures { result ≡ slice_index self.now.numbers.items home }
@@ -92,11 +95,11 @@ impl Links {
     ) -> Option<u32>
         requires linked { AreLinked seeds.now facts.now self.now }
         requires number { number ≡ slice_index self.now.numbers.items (home_of fact) }
-        requires some { 0 < number }
+        requires some { MANY ≤ number }
         ensures there { IfSome result (λ place. slice_get facts.now place ≡ Some fact) }
         ensures none { IsNone result → Contains facts.now fact → ⊥ }
     {
-        match self.slots[number as usize - 1].search(seeds, facts, fact) {
+        match self.slots[(number - MANY) as usize].search(seeds, facts, fact) {
             Found::At(place) => Some(place),
             Found::Free(_) => None,
         }
@@ -118,10 +121,28 @@ impl Links {
         ensures added { OnOk result (AreLinked seeds.now (facts.now ++ fact ∷ []) self.new) }
     {
         let number = self.of(home_of(fact));
-        if number == 0 {
+        if number < MANY {
             return Ok(());
         }
-        self.slots[number as usize - 1].insert(alloc, seeds, facts, fact, facts.len() as u32 + 1)
+        let place = (number - MANY) as usize;
+        self.slots[place].insert(alloc, seeds, facts, fact, facts.len() as u32 + 1)
+    }
+
+    /// Counts facts that a walk passed in the home, which has no slots, and says whether walks have passed many there with them. Then, and
+    /// where memory is refused, they are not counted.
+    pub(crate) fn pass(&mut self, home: usize, steps: u32) -> bool
+        ensures linked { (seeds : TheSeeds) (facts : List AFact) → AreLinked seeds facts self.old → AreLinked seeds facts self.new }
+        ensures many { IsTrue result ↔ (MANY ≤ slice_index self.old.numbers.items home + steps) }
+    {
+        let passed = self.of(home).saturating_add(steps);
+        if MANY <= passed {
+            return true;
+        }
+        let Ok(()) = extend(&mut self.numbers, home) else {
+            return false;
+        };
+        put(&mut self.numbers, home, passed);
+        false
     }
 
     /// Makes slots of the home. Fails where memory is refused; each fact is found as before.
@@ -138,12 +159,13 @@ impl Links {
     {
         let slots = gather(alloc, seeds, facts, home)?;
         let number = self.slots.len();
-        if u32::MAX as usize <= number {
+        let most = (u32::MAX - MANY) as usize;
+        if most < number {
             return Err(Memory);
         }
         extend(&mut self.numbers, home)?;
         self.slots.push(slots)?;
-        put(&mut self.numbers, home, number as u32 + 1);
+        put(&mut self.numbers, home, number as u32 + MANY);
         Ok(())
     }
 }

@@ -55,6 +55,7 @@ impl Marks {
     }
 
     /// Takes all marks away; there is no owner.
+    #[inline(never)]
     pub(crate) fn clear(&mut self)
         ensures owner { self.new.owner ≡ None }
         ensures marked { (table : List AFact) → AreMarked table self.new }
@@ -94,6 +95,7 @@ impl Marks {
     }
 
     /// Marks the facts of the home in the table. Fails where memory is refused.
+    #[inline(never)]
     fn fill(&mut self, table: &ChainedFacts, home: usize) -> Result<(), Memory>
         requires marked { AreMarked table.now.facts self.old }
         requires home { table.now.by ≡ keys.Home }
@@ -110,15 +112,19 @@ impl Marks {
         Ok(())
     }
 
+    /// How many facts are marked.
+    pub(crate) fn len(&self) -> u32
+        ensures { result ≡ length self.now.facts.facts }
+    {
+        self.facts.len() as u32
+    }
+
     /// Makes the home the owner, and marks its facts in the table. Where memory is refused there is no owner.
     pub(crate) fn own(&mut self, table: &ChainedFacts, home: usize)
         requires marked { AreMarked table.now.facts self.old }
         requires home { table.now.by ≡ keys.Home }
         ensures { AreMarked table.now.facts self.new }
     {
-        if self.owns(home) {
-            return;
-        }
         self.clear();
         if self.fill(table, home).is_err() {
             self.clear();

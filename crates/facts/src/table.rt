@@ -5,7 +5,7 @@ ghost use Rattle.std.specs.Prelude.{◌≡◌, ◌<◌, ◌^◌, ◌++◌, ◌�
 use crate::chained::ChainedFacts;
 use crate::contexts::{Context, Fact};
 use crate::homes::{Key, home_of, number_of};
-use crate::links::Links;
+use crate::links::{Links, MANY};
 use crate::marks::Marks;
 use crate::seeds::Seeds;
 use crate::stored::StoredFact;
@@ -14,12 +14,10 @@ use std::alloc::Global;
 use std::hash::RandomState;
 use std::marker::Model;
 
-/// A context whose fact was sought by a walk past more facts than these gets slots.
-const LONG: u32 = 24;
-
-/// Facts in order, each once, fewer than 2^32. The facts of the context that owns the table are found by marks, those of a context that
-/// was long in a search by their hashes, and others by a walk from the newest to the oldest. This takes 4 bytes beside a fact, and 8 to
-/// 16 more where its context has slots, 4 bytes beside each number of a context, and 4 beside each number of a class, or of a target.
+/// Facts in order, each once, fewer than 2^32. The facts of the context that owns the table are found by marks, those of a context in
+/// which walks have passed many by their hashes, and others by a walk from the newest to the oldest. This takes 4 bytes beside a fact, and
+/// 8 to 16 more where its context has slots, 4 bytes beside each number of a context, 4 more up to the greatest in which a walk passed any,
+/// and 4 beside each number of a class, or of a target.
 #[derive(Drop)]
 pub struct FactTable {
     alloc: Global,
@@ -92,6 +90,7 @@ impl FactTable {
     }
 
     /// The place of the fact, if it is there.
+    #[inline(always)]
     pub fn find(&self, fact: Fact) -> Option<u32>
         ensures there { IfSome result (λ place. slice_get self.now place ≡ Some fact) }
         ensures none { IsNone result → Contains self.now fact → ⊥ }
@@ -101,7 +100,7 @@ impl FactTable {
             return self.marks.find(fact);
         }
         let number = self.links.of(home);
-        if number != 0 {
+        if MANY <= number {
             let facts = self.facts.as_slice();
             return self.links.find(&self.seeds, facts, fact, number);
         }
@@ -109,6 +108,7 @@ impl FactTable {
     }
 
     /// Makes slots of the facts of the home, if memory is to be had.
+    #[inline(never)]
     fn link(&mut self, home: usize)
         ensures { self.new ≡ self.old }
     {
@@ -121,18 +121,19 @@ impl FactTable {
         }
     }
 
-    /// The place of the fact, if it is there. Where many of its context are passed, its context gets slots, if memory is to be had.
+    /// The place of the fact, if it is there. Where walks have passed many facts in its context, that gets slots, if memory is to be had.
+    #[inline(always)]
     pub fn seek(&mut self, fact: Fact) -> Option<u32>
         ensures same { self.new ≡ self.old }
         ensures there { IfSome result (λ place. slice_get self.old place ≡ Some fact) }
         ensures none { IsNone result → Contains self.old fact → ⊥ }
     {
         let home = home_of(fact);
-        if self.marks.owns(home) || self.links.of(home) != 0 {
+        if self.marks.owns(home) || MANY <= self.links.of(home) {
             return self.find(fact);
         }
         let walk = self.facts.walk(fact);
-        if LONG < walk.steps {
+        if walk.steps != 0 && self.links.pass(home, walk.steps) {
             self.link(home);
         }
         walk.place
@@ -146,12 +147,29 @@ impl FactTable {
         Ok(())
     }
 
-    /// Finds the facts of the context by marks from now on, until another is to own them. Where memory is refused none does, and facts
-    /// are found all the same.
+    /// Makes the home the owner of the marks. To mark its facts costs as much as to pass them: a home of which many were marked gets slots.
+    #[inline(never)]
+    fn hand_marks(&mut self, home: usize)
+        ensures { self.new ≡ self.old }
+    {
+        self.marks.own(&self.facts, home);
+        let marked = self.marks.len();
+        if marked != 0 && self.links.pass(home, marked) {
+            self.link(home);
+        }
+    }
+
+    /// Finds the facts of the context by marks from now on, until another is to own them, unless it has slots. Where memory is refused none
+    /// does, and facts are found all the same.
+    #[inline(always)]
     pub fn own(&mut self, context: Context)
         ensures { self.new ≡ self.old }
     {
-        self.marks.own(&self.facts, number_of(context));
+        let home = number_of(context);
+        if self.marks.owns(home) || MANY <= self.links.of(home) {
+            return;
+        }
+        self.hand_marks(home);
     }
 
     /// Adds a fact that is not there at the end. Fails where memory is refused; then the facts are what they were.

@@ -190,6 +190,7 @@ impl KnownFacts {
     }
 
     /// The number of the fact, if it is there.
+    #[inline(always)]
     pub fn find(&self, fact: Fact) -> Option<u32>
         ensures there { IfSome result (λ number. slice_get self.now.facts number ≡ Some fact) }
         ensures none { IsNone result → Contains self.now.facts fact → ⊥ }
@@ -198,6 +199,7 @@ impl KnownFacts {
     }
 
     /// The number of the fact, if it is there. Where it is sought past many of its context, they are found faster from now on.
+    #[inline(always)]
     pub(crate) fn seek(&mut self, fact: Fact) -> Option<u32>
         ensures same { self.new ≡ self.old }
         ensures there { IfSome result (λ number. slice_get self.old.facts number ≡ Some fact) }
@@ -207,6 +209,7 @@ impl KnownFacts {
     }
 
     /// Finds the facts of the context fastest from now on, until another is to own them.
+    #[inline(always)]
     pub(crate) fn own(&mut self, context: Context)
         ensures { self.new ≡ self.old }
     {

@@ -89,6 +89,7 @@ impl Rules<'_> {
     }
 
     /// Adds what two edges give in this order.
+    #[inline(always)]
     fn draw_edges(
         &self,
         facts: &mut KnownFacts,
