@@ -8,7 +8,7 @@ ghost use Rattle.std.specs.Prelude.{◌≡◌, ◌≤◌, IfNone, IfSome, Some, 
 
 use axioms::Ontology;
 use facts::{Birth, FactId, StoredFact};
-use indexes::Groups;
+use indexes::{Groups, IndexedProblem};
 use normalise::Normal;
 use property_closure::PropertyClosure;
 use saturate::Ground;
@@ -77,6 +77,13 @@ impl<'a> Closed<'a> {
     {
         let FactId(number) = fact;
         self.births.get(number as usize)
+    }
+
+    /// The forms, found by their classes, properties and individuals.
+    pub fn problem(&self) -> &'a IndexedProblem
+        ensures { result.now ≡ self.now.saturation.state.problem }
+    {
+        self.ground.problem()
     }
 
     /// What the forms say of properties.

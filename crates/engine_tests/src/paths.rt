@@ -2,7 +2,8 @@
 
 use axioms::{Memory, PropId};
 use explain::PropertyPaths;
-use normal_forms::{Class2, Form, FormList};
+use indexes::IndexedProblem;
+use normal_forms::{ApartLists, Class2, Form, FormList};
 use std::alloc::Global;
 use std::test::Fail;
 
@@ -24,10 +25,10 @@ const FORMS: &[Form] = &[
     Form::N5(S, T),
 ];
 
-/// What leads from a property to another, where there is such a path.
-fn path(alloc: Global, from: PropId, to: PropId) -> Result<Option<Vec<u32>>, Memory> {
-    let paths = PropertyPaths::new(alloc, 4, &FormList::of(alloc, FORMS)?)?;
-    paths.path(alloc, from, to)
+fn problem(alloc: Global) -> Result<IndexedProblem, Memory> {
+    let forms = FormList::of(alloc, FORMS)?;
+    let apart = ApartLists::new(alloc);
+    Ok(IndexedProblem::new(alloc, forms, apart, Vec::new(alloc))?)
 }
 
 /// Two properties, and the forms that lead from the first to the second.
@@ -40,15 +41,26 @@ const PATHS: &[(PropId, PropId, &[u32])] = &[
     (PropId(7), PropId(7), &[]),
 ];
 
-#[test]
-fn paths_through_a_cycle(rt: HostRuntime) -> Result<(), Fail> {
+fn has_all_paths(paths: &mut PropertyPaths<'_>) -> Result<bool, Memory> {
     for row in PATHS {
         let (from, to, numbers) = *row;
-        let Some(path) = path(rt.alloc(), from, to)? else {
-            return Err(Fail::from("no path"));
+        let Some(path) = paths.path(from, to)? else {
+            return Ok(false);
         };
-        assert!(rt; path.as_slice() == numbers);
+        if path.as_slice() != numbers {
+            return Ok(false);
+        }
     }
+    Ok(true)
+}
+
+#[test]
+fn paths_through_a_cycle(rt: HostRuntime) -> Result<(), Fail> {
+    let problem = problem(rt.alloc())?;
+    let mut paths = PropertyPaths::new(rt.alloc(), 4, &problem)?;
+    assert!(rt; has_all_paths(&mut paths)?);
+    // and those that are kept
+    assert!(rt; has_all_paths(&mut paths)?);
     Ok(())
 }
 
@@ -63,9 +75,11 @@ const APART: &[(PropId, PropId)] = &[
 
 #[test]
 fn no_path(rt: HostRuntime) -> Result<(), Fail> {
+    let problem = problem(rt.alloc())?;
+    let mut paths = PropertyPaths::new(rt.alloc(), 4, &problem)?;
     for row in APART {
         let (from, to) = *row;
-        assert!(rt; path(rt.alloc(), from, to)?.is_none());
+        assert!(rt; paths.path(from, to)?.is_none());
     }
     Ok(())
 }

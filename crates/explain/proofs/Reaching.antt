@@ -40,11 +40,15 @@ module _ (Leads : ℕ → ℕ → ℕ → Type 0) (bound : ℕ) (lists : List (L
         let x : Told = record { form = n; to = d } in
         numbers.onward b x (led before) ((told.exact b x).1 leads)
 
-    pub reached : (found : List Reached) → AreFound number target by (start_of c ∷ []) lists found → AreReached Leads c found
+    reached : (found : List Reached) → AreFound number target by (start_of c ∷ []) lists found → AreReached Leads c found
     reached found f = record {
       ways = λ place r g. way found place r (f.ways place r g);
       all = λ d h. f.all d (led h);
     }
+
+    -- .. in the list that it is read from
+    pub found_in : (found list : List Reached) → AreFound number target by (start_of c ∷ []) lists found → list ≡ found → AreReached Leads c list
+    found_in found list f is = subst (AreReached Leads c) (sym is) (reached found f)
 
 -- ---- what forms lead to
 
@@ -67,7 +71,3 @@ not_seen bound forms links i j seen told exact hidden one =
     let h : has seen j.0 ≡ true = (exact j.0).1 (led (LeadsOver forms) bound links told i.0 (led_over one)) in
     let bad : false ≡ true = sym hidden ∙ h in
     cc
-
--- what such a search found, in the list that it is read from
-pub found_in : (bound : ℕ) (forms : List Form) (links : List (List Told)) (c : ℕ) (found list : List Reached) → AreTold bound (LeadsOver forms) links → AreFound number target by (start_of c ∷ []) links found → list ≡ found → AreReached (LeadsOver forms) c list
-found_in bound forms links c found list told search is = subst (AreReached (LeadsOver forms) c) (sym is) (reached (LeadsOver forms) bound links told c found search)

@@ -1,11 +1,15 @@
 -- Ways back are paths, and what is kept of them.
-use Rattle.std.proofs.Common.{◌≡◌, ℕ, ◌+◌, ◌≤◌, inl, inr, List, [], ◌∷◌, ◌++◌, length, slice_get, Option, Some, None, refl, sym, ap, ◌∙◌, subst, arith}
+use Rattle.std.proofs.Common.{◌≡◌, ℕ, ◌+◌, ◌≤◌, false, inl, inr, List, [], ◌∷◌, ◌++◌, length, slice_get, Option, Some, None, refl, sym, ap, ◌∙◌, subst, arith}
+use Rattle.std.specs.BTreeMap.{BTreeMap, Updates, get, is_at}
 use Rattle.std.specs.List.{All}
+use Rattle.std.specs.Map.{lookup}
+use Rattle.std.specs.Ordering.{is_eq, nat_cmp}
 use Rattle.std.specs.Prelude.{Result, Ok, Err, IfOk, MatchOption, reverse}
-use Rattle.std.proofs.lemmas.Bool.{cases_lt}
-use Rattle.std.proofs.lemmas.List.{append_assoc, append-nil, length_push, reverse-append, get_or_past}
+use Rattle.std.proofs.lemmas.Bool.{cases_eq}
+use Rattle.std.proofs.lemmas.Bool.Decides.{nat_tests}
+use Rattle.std.proofs.lemmas.List.{append_assoc, append-nil, get_or_append_left, get_or_push, length_push, reverse-append}
 use Rattle.std.proofs.lemmas.List.Elements.{All-contains}
-use Rattle.std.proofs.lemmas.Option.{same_Some}
+use Rattle.std.proofs.lemmas.Option.{none-some, same_Some}
 use Rattle.lemmas.proofs.Members.{Contains-from_slice_get, slice_get-from_Contains}
 use Rattle.axioms.specs.declared.ids.IndId.{IndId}
 use Rattle.axioms.specs.declared.ids.PropId.{PropId}
@@ -15,12 +19,11 @@ use Rattle.normal_forms.specs.declared.forms.PropId2.{PropId2}
 use Rattle.normal_forms.specs.declared.forms.PropId2.TheVariants.{Property}
 use Rattle.normal_forms.specs.Properties.{IsAtOrBelow, IsPropertyFormOf, same, step}
 use Rattle.number_sets.specs.Pieces.{list_at}
-use Rattle.number_sets.proofs.Members.{each_more}
 use Rattle.explain.specs.declared.reached.Reached.{Reached}
 use Rattle.explain.specs.declared.reached.Way.{Way}
 use Rattle.explain.specs.declared.told.Told.{Told}
 use Rattle.explain.specs.Paths.{IsChain, IsPath}
-use Rattle.explain.specs.Search.{AreAllReached, AreEarlier, AreLeadsWithin, AreReached, AreReachedOrNone, AreWays, HasNo, IsTrace, IsWay, LeadsOver, LeadsUp, StandsAt, as_id, as_individual}
+use Rattle.explain.specs.Search.{AreEarlier, AreKept, AreLeadsWithin, AreReached, AreWays, HasNo, IsTrace, IsWay, LeadsOver, LeadsUp, StandsAt, as_id, as_individual}
 use Rattle.explain.specs.Search as search
 use Rattle.explain.proofs.Reaching.{led_up}
 
@@ -90,11 +93,32 @@ chain_along forms i (n ∷ ns) j (h, link, rest) = (as_individual h, link, chain
 
 -- ---- what is kept for a property
 
--- its list, where that is not empty
-pub kept_at : (forms : List Form) (told : List (List Told)) (lists : List (List Reached)) (p : ℕ) (list : List Reached) → AreAllReached forms told lists → list ≡ list_at lists p → (list ≡ [] → ⊥) → AreReached (LeadsUp forms) p list
-kept_at forms told lists p list w is some = elim (w.each p) [
-  | inl e ↦ absurd (some (is ∙ e))
-  | inr h ↦ subst (AreReached (LeadsUp forms) p) (sym is) h
+-- no place for any
+pub none_kept : (forms : List Form) (places : BTreeMap ℕ ℕ) (lists : List (List Reached)) → places.entries ≡ [] → AreKept forms places lists
+none_kept forms places lists none p place at = absurd (none-some place (ap (lookup (is_at (nat_cmp p))) (sym none) ∙ at))
+
+-- the same places
+pub kept_still : (forms : List Form) (old new : BTreeMap ℕ ℕ) (lists : List (List Reached)) → new.entries ≡ old.entries → AreKept forms old lists → AreKept forms new lists
+kept_still forms old new lists equal kept p place at = kept p place (ap (lookup (is_at (nat_cmp p))) (sym equal) ∙ at)
+
+-- a list more with no place
+pub kept_longer : (forms : List Form) (places : BTreeMap ℕ ℕ) (lists : List (List Reached)) (list : List Reached) → AreKept forms places lists → AreKept forms places (lists ++ list ∷ [])
+kept_longer forms places lists list kept p place at =
+    let (low, reached) = kept p place at in
+    (omega (arith, low, length_push lists list), subst (AreReached (LeadsUp forms) p) (sym (get_or_append_left lists (list ∷ []) [] place low)) reached)
+
+differ : (x y : ℕ) → (y ≡ x → ⊥) → is_eq (nat_cmp x y) ≡ false
+differ x y other = grind (arith, nat_tests)
+
+-- one with a place
+pub one_kept : (forms : List Form) (old new : BTreeMap ℕ ℕ) (lists : List (List Reached)) (list : List Reached) (q : ℕ) → Updates nat_cmp old new q (Some (length lists)) → AreKept forms old lists → AreReached (LeadsUp forms) q list
+    → AreKept forms new (lists ++ list ∷ [])
+one_kept forms old new lists list q is kept reached p place at = elim (cases_eq p q) [
+  | inl here ↦
+      let last : length lists ≡ place = same_Some (length lists) place (sym is.1 ∙ subst (λ (k : ℕ). get nat_cmp new k ≡ Some place) here at) in
+      let there : list_at (lists ++ list ∷ []) place ≡ list = get_or_push lists list [] place last in
+      (omega (arith, last, length_push lists list), subst (AreReached (LeadsUp forms) p) (sym there) (subst (λ (k : ℕ). AreReached (LeadsUp forms) k list) (sym here) reached))
+  | inr other ↦ kept_longer forms old lists list kept p place (sym (is.2 p (differ q p other)) ∙ at)
 ]
 
 -- the way to what was reached is a path
@@ -112,14 +136,6 @@ pub way_is : {V E : Type 0} (numbers : V → List ℕ) (forms : List Form) (p d 
 way_is numbers forms p d list (Ok None) h hidden = not_above forms p d list h hidden
 way_is numbers forms p d list (Ok (Some v)) h way = path_by forms p d list (numbers v) h way
 way_is numbers forms p d list (Err e) h way = way
-
--- one list more, that of the next property
-pub each_or_none : (forms : List Form) (lists : List (List Reached)) (list : List Reached) (n : ℕ) → length lists ≡ n → ((p : ℕ) → AreReachedOrNone (LeadsUp forms) p (list_at lists p)) → AreReachedOrNone (LeadsUp forms) n list
-    → (p : ℕ) → AreReachedOrNone (LeadsUp forms) p (list_at (lists ++ list ∷ []) p)
-each_or_none forms lists list n long before last p = elim (cases_lt p (n + 1)) [
-  | inl l ↦ each_more (AreReachedOrNone (LeadsUp forms)) lists list n long (λ k _. before k) last p l
-  | inr l ↦ inl (get_or_past (lists ++ list ∷ []) p [] (omega (arith, l, long, length_push lists list)))
-]
 
 -- a property that no form leads on from is below itself alone
 alone : (forms : List Form) (p : PropId) → ((n s : ℕ) → LeadsUp forms n p.0 s → ⊥) → (q : PropId2) → IsAtOrBelow forms (Property p) q → q ≡ Property p

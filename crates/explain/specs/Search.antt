@@ -1,10 +1,14 @@
 -- The search along forms from one number, with the way to each number that it reaches: from a property to those above it, or from an
 -- individual to those that are one with it.
 use Rattle.std.specs.Prelude.{◌≡◌, ℕ, ◌<◌, ◌≤◌, ◌^◌, ◌⊎◌, ◌↔◌, List, [], ◌∷◌, ◌++◌, length, slice_get, Option, Some, None}
+use Rattle.std.specs.BTreeMap.{BTreeMap, get}
 use Rattle.std.specs.List.{Contains}
+use Rattle.std.specs.Ordering.{nat_cmp}
 use Rattle.axioms.specs.declared.ids.IndId.{IndId}
 use Rattle.axioms.specs.declared.ids.PropId.{PropId}
 use Rattle.facts.specs.Closure.{Links}
+use Rattle.indexes.specs.FormsUnderKeys.{IsUnder}
+use Rattle.indexes.specs.Keys.{by_linked_first, by_linked_second, individual_key}
 use Rattle.normal_forms.specs.declared.forms.Form.{Form}
 use Rattle.normal_forms.specs.declared.forms.Form.TheVariants.{N5}
 use Rattle.number_sets.specs.Pieces.{list_at}
@@ -31,6 +35,10 @@ LinksBy forms n i j = (form : Form) × (slice_get forms n ≡ Some form) × Link
 abbrev pub LeadsOver : List Form → ℕ → ℕ → ℕ → Type 0
 LeadsOver forms n i j = LinksBy forms n (as_individual i) (as_individual j)
 
+-- the form of that number makes the individual one with another, as its first or as its second
+abbrev pub IsLinkOf : List Form → IndId → ℕ → Type 0
+IsLinkOf forms i n = IsUnder by_linked_first forms (individual_key i) n ⊎ IsUnder by_linked_second forms (individual_key i) n
+
 -- the numbers that such forms lead to from c
 pub data IsLedTo (Leads : ℕ → ℕ → ℕ → Type 0) (c : ℕ) : ℕ → Type 0 where
   itself : IsLedTo Leads c c
@@ -40,14 +48,22 @@ pub data IsLedTo (Leads : ℕ → ℕ → ℕ → Type 0) (c : ℕ) : ℕ → Ty
 abbrev pub AreLeadsWithin : ℕ → (ℕ → ℕ → ℕ → Type 0) → Type 0
 AreLeadsWithin bound Leads = (n r s : ℕ) → Leads n r s → (r < bound) × (s < bound)
 
+-- these are the forms that lead from r, with what they lead to
+abbrev pub AreToldOf : (ℕ → ℕ → ℕ → Type 0) → ℕ → List Told → Type 0
+AreToldOf Leads r list = (t : Told) → Contains list t ↔ Leads t.form r t.to
+
 -- for each number below the bound the forms that lead from it
 pub record AreTold (bound : ℕ) (Leads : ℕ → ℕ → ℕ → Type 0) (lists : List (List Told)) : Type 0 where
   pub long : length lists ≡ bound
-  pub exact : (r : ℕ) (t : Told) → Contains (list_at lists r) t ↔ Leads t.form r t.to
+  pub exact : (r : ℕ) → AreToldOf Leads r (list_at lists r)
 
--- what the first k forms lead to
-abbrev pub AreToldBefore : (ℕ → ℕ → ℕ → Type 0) → ℕ → List (List Told) → Type 0
-AreToldBefore Leads k lists = (r : ℕ) (t : Told) → Contains (list_at lists r) t ↔ ((t.form < k) × Leads t.form r t.to)
+-- .. or no list was made
+abbrev pub AreToldOrNone : ℕ → (ℕ → ℕ → ℕ → Type 0) → List (List Told) → Type 0
+AreToldOrNone bound Leads lists = (lists ≡ []) ⊎ AreTold bound Leads lists
+
+-- what the form of that number leads to from r is there too
+abbrev pub AddsTold : (ℕ → ℕ → ℕ → Type 0) → (n r : ℕ) → (old new : List Told) → Type 0
+AddsTold Leads n r old new = (t : Told) → Contains new t ↔ (Contains old t ⊎ ((t.form ≡ n) × Leads n r t.to))
 
 -- ---- what was reached
 
@@ -92,13 +108,13 @@ step_from from t = record { number = t.to; way = Some (record { form = t.form; f
 
 -- ---- what is kept
 
--- these are c and all that forms lead to from it, with the ways to them, or none was looked for
-abbrev pub AreReachedOrNone : (ℕ → ℕ → ℕ → Type 0) → ℕ → List Reached → Type 0
-AreReachedOrNone Leads c found = (found ≡ []) ⊎ AreReached Leads c found
+-- the list that is kept for a property is of it and of those above it, with the ways to them
+abbrev pub AreKept : List Form → BTreeMap ℕ ℕ → List (List Reached) → Type 0
+AreKept forms places lists = (p place : ℕ) → get nat_cmp places p ≡ Some place → (place < length lists) × AreReached (LeadsUp forms) p (list_at lists place)
 
--- for each property below a bound the plain forms that lead from it; and for each property those above it, or none
-pub record AreAllReached (forms : List Form) (told : List (List Told)) (lists : List (List Reached)) : Type 0 where
-  pub few : length told ≤ 2 ^ 32
-  pub within : AreLeadsWithin (length told) (LeadsUp forms)
-  pub leads : AreTold (length told) (LeadsUp forms) told
-  pub each : (p : ℕ) → AreReachedOrNone (LeadsUp forms) p (list_at lists p)
+-- the plain forms that lead from each of so many properties, or no lists, and ways from properties
+pub record AreWaysUp (forms : List Form) (properties : ℕ) (told : List (List Told)) (places : BTreeMap ℕ ℕ) (lists : List (List Reached)) : Type 0 where
+  pub few : properties ≤ 2 ^ 32
+  pub within : AreLeadsWithin properties (LeadsUp forms)
+  pub leads : AreToldOrNone properties (LeadsUp forms) told
+  pub kept : AreKept forms places lists

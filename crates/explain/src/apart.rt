@@ -82,10 +82,10 @@ fn chain_to_another(
     basis.closed.well_formed();
     let ontology = basis.closed.ontology();
     ontology.bounded();
-    let normal = basis.closed.normal();
-    let others = behind(normal.apart().individuals.at(list as usize), individual);
+    let problem = basis.closed.problem();
+    let others = behind(problem.apart().individuals.at(list as usize), individual);
     let individuals = ontology.individuals().len();
-    chain_to_one(basis.alloc, individuals, normal.forms(), individual, others)
+    chain_to_one(basis.alloc, individuals, problem, individual, others)
 }
 
 // The individual that the fact puts into a class, if it does.
@@ -103,7 +103,7 @@ fn individual_of(fact: Fact) -> Option<IndId>
 ///
 /// # Errors
 ///
-/// `Memory` where memory was refused, or there are more than 2^32 - 1 forms.
+/// `Memory` where memory was refused.
 pub(crate) fn shown_by_different<L: LineSink>(
     basis: &Basis<'_>,
     derivation: &mut Derivation<L>,

@@ -10,7 +10,7 @@ use crate::reached::Reached;
 use crate::told::all_links;
 use crate::walk::{place_of, walk};
 use axioms::{IndId, Memory};
-use normal_forms::FormList;
+use indexes::IndexedProblem;
 use number_sets::{EpochSet, NumberSearch};
 use std::alloc::Global;
 
@@ -31,23 +31,20 @@ fn first_seen(seen: &EpochSet, individuals: &[IndId]) -> Option<IndId>
 ///
 /// # Errors
 ///
-/// `Memory` where memory was refused, or there are more than 2^32 - 1 forms.
+/// `Memory` where memory was refused.
 pub(crate) fn chain_to_one(
     alloc: Global,
     individuals: usize,
-    forms: &FormList,
+    problem: &IndexedProblem,
     first: IndId,
     others: &[IndId],
 ) -> Result<Option<Vec<u32>>, Memory>
     requires numbers { individuals ≤ 2 ^ 32 }
-    requires within { AreLeadsWithin individuals (LeadsOver forms.now) }
+    requires within { AreLeadsWithin individuals (LeadsOver problem.now.forms) }
     requires there { first.0 < individuals }
-    ensures { IfOk result (λ found. MatchOption found ((i : Ind) → Contains others.now i → AreSame forms.now first i → ⊥) (λ v. (i : Ind) × Contains others.now i × IsChain forms.now first v.items i)) }
+    ensures { IfOk result (λ found. MatchOption found ((i : Ind) → Contains others.now i → AreSame problem.now.forms first i → ⊥) (λ v. (i : Ind) × Contains others.now i × IsChain problem.now.forms first v.items i)) }
 {
-    if forms.len() > u32::MAX as usize {
-        return Err(Memory);
-    }
-    let links = all_links(alloc, individuals, forms)?;
+    let links = all_links(alloc, individuals, problem)?;
     let mut search = NumberSearch::new(alloc, individuals)?;
     let start = Reached {
         number: first.0,

@@ -20,6 +20,7 @@ use crate::line::{concluded, fact_of};
 use crate::lines_by_fact::LineNumbers;
 use crate::next_fact::NextFact;
 use crate::older::rests_on;
+use crate::paths::PropertyPaths;
 use crate::premises::premises;
 use crate::sink::LineSink;
 use axioms::{Axiom, Memory, Ontology};
@@ -123,23 +124,25 @@ fn shown_by_inclusion<L: LineSink>(
 // the fact.
 fn shown_by_facts<L: LineSink>(
     basis: &Basis<'_>,
+    paths: &mut PropertyPaths<'_>,
     derivation: &mut Derivation<L>,
     next: &NextFact<'_>,
     form: u32,
     step: &Form,
 ) -> Result<LineNumbers, Memory>
-    requires paths { basis.now.paths.now ≡ basis.now.closed.now.saturation.state.problem.forms }
+    requires paths { paths.old ≡ basis.now.closed.now.saturation.state.problem.forms }
     requires next { IsNext basis.now.closed.now.ontology basis.now.closed.now.saturation derivation.old next.now.shown.now next.now.fact.0 (reason next.now.birth.now) }
     requires form { (reason next.now.birth.now).form ≡ Some form }
     requires step { slice_get basis.now.closed.now.saturation.state.problem.forms form ≡ Some step.now }
     requires facts { TakesNoSame step.now }
     requires of_form { NamesForm (reason next.now.birth.now).condition }
-    ensures { IfOk result (λ numbers. ShowsNext basis.now.closed.now.ontology basis.now.closed.now.saturation next.now.shown.now next.now.fact.0 derivation.old derivation.new numbers.items) }
+    ensures paths { paths.new ≡ paths.old }
+    ensures shown { IfOk result (λ numbers. ShowsNext basis.now.closed.now.ontology basis.now.closed.now.saturation next.now.shown.now next.now.fact.0 derivation.old derivation.new numbers.items) }
 {
     basis.closed.well_formed();
     let normal = basis.closed.normal();
     let older = rests_on(normal, next.birth);
-    let numbers = premises(basis, derivation, next.shown, older, step)?;
+    let numbers = premises(basis, paths, derivation, next.shown, older, step)?;
     let fact = fact_of(basis.closed, next.fact);
     let (rule, axiom) = origin_rule(basis.closed.ontology(), normal, form, step);
     let numbers = concluded(derivation, fact, rule, axiom, numbers)?;
@@ -177,17 +180,19 @@ fn shown_by_same<L: LineSink>(
 ///
 /// # Errors
 ///
-/// `Memory` where memory was refused, or there are more than 2^32 - 1 forms.
+/// `Memory` where memory was refused.
 pub(crate) fn shown_by_form<L: LineSink>(
     basis: &Basis<'_>,
+    paths: &mut PropertyPaths<'_>,
     derivation: &mut Derivation<L>,
     next: &NextFact<'_>,
     number: u32,
 ) -> Result<LineNumbers, Memory>
-    requires paths { basis.now.paths.now ≡ basis.now.closed.now.saturation.state.problem.forms }
+    requires paths { paths.old ≡ basis.now.closed.now.saturation.state.problem.forms }
     requires next { IsNext basis.now.closed.now.ontology basis.now.closed.now.saturation derivation.old next.now.shown.now next.now.fact.0 (reason next.now.birth.now) }
     requires form { (reason next.now.birth.now).form ≡ Some number }
-    ensures { IfOk result (λ numbers. ShowsNext basis.now.closed.now.ontology basis.now.closed.now.saturation next.now.shown.now next.now.fact.0 derivation.old derivation.new numbers.items) }
+    ensures paths { paths.new ≡ paths.old }
+    ensures shown { IfOk result (λ numbers. ShowsNext basis.now.closed.now.ontology basis.now.closed.now.saturation next.now.shown.now next.now.fact.0 derivation.old derivation.new numbers.items) }
 {
     basis.closed.well_formed();
     let condition = next.birth.condition();
@@ -208,6 +213,6 @@ pub(crate) fn shown_by_form<L: LineSink>(
         let numbers = shown_by_same(basis, derivation, next, number)?;
         return Ok(numbers);
     }
-    let numbers = shown_by_facts(basis, derivation, next, number, &step)?;
+    let numbers = shown_by_facts(basis, paths, derivation, next, number, &step)?;
     Ok(numbers)
 }

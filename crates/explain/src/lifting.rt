@@ -13,6 +13,7 @@ use crate::derivation::Derivation;
 use crate::edge::{Edge, Ends};
 use crate::line::concluded;
 use crate::lines_by_fact::LineNumbers;
+use crate::paths::PropertyPaths;
 use crate::sink::LineSink;
 use axioms::{Memory, PropId};
 use certificate::Rule;
@@ -70,15 +71,17 @@ fn lifted_by<L: LineSink>(
 /// `Memory` where memory was refused.
 pub(crate) fn lifted<L: LineSink>(
     basis: &Basis<'_>,
+    paths: &mut PropertyPaths<'_>,
     derivation: &mut Derivation<L>,
     numbers: LineNumbers,
     edge: Edge,
     above: PropId2,
 ) -> Result<LineNumbers, Memory>
-    requires paths { basis.now.paths.now ≡ basis.now.closed.now.saturation.state.problem.forms }
+    requires paths { paths.old ≡ basis.now.closed.now.saturation.state.problem.forms }
     requires derivation { IsDerivation basis.now.closed.now.ontology derivation.old }
     requires shown { AreShowingIn basis.now.closed.now.saturation derivation.old numbers.items (EdgeFact edge.ends.source edge.property edge.ends.target) }
     requires below { IsAtOrBelow basis.now.closed.now.saturation.state.problem.forms edge.property above }
+    ensures paths { paths.new ≡ paths.old }
     ensures derivation { OnOk result (IsDerivation basis.now.closed.now.ontology derivation.new) }
     ensures longer { OnOk result (Lengthens derivation.old derivation.new) }
     ensures shown { IfOk result (λ v. AreShowingIn basis.now.closed.now.saturation derivation.new v.items (EdgeFact edge.ends.source above edge.ends.target)) }
@@ -87,7 +90,7 @@ pub(crate) fn lifted<L: LineSink>(
     let (PropId2::Property(from), PropId2::Property(to)) = (edge.property, above) else {
         return Ok(numbers);
     };
-    let Some(path) = basis.paths.path(basis.alloc, from, to)? else {
+    let Some(path) = paths.path(from, to)? else {
         // The property is at the one above or below it.
         unreachable!()
     };

@@ -15,6 +15,7 @@ use crate::edge::{Edge, Ends};
 use crate::lifting::lifted;
 use crate::line::fact_of;
 use crate::lines_by_fact::{LineNumbers, LinesByFact};
+use crate::paths::PropertyPaths;
 use crate::sink::LineSink;
 use axioms::Memory;
 use facts::{Fact, FactId, Older};
@@ -46,16 +47,18 @@ fn second_property(form: &Form) -> Option<PropId2>
 // The numbers of the lines that show an older fact; an edge is lifted to the property, where there is one.
 fn lifted_to<L: LineSink>(
     basis: &Basis<'_>,
+    paths: &mut PropertyPaths<'_>,
     derivation: &mut Derivation<L>,
     shown: &LinesByFact,
     older: FactId,
     property: Option<PropId2>,
 ) -> Result<LineNumbers, Memory>
-    requires paths { basis.now.paths.now ≡ basis.now.closed.now.saturation.state.problem.forms }
+    requires paths { paths.old ≡ basis.now.closed.now.saturation.state.problem.forms }
     requires derivation { IsDerivation basis.now.closed.now.ontology derivation.old }
     requires there { older.0 < length basis.now.closed.now.saturation.state.facts }
     requires shown { ShowsFact basis.now.closed.now.saturation derivation.old older.0 (list_at shown.now older.0) }
     requires below { LeadsUpAt basis.now.closed.now.saturation property older.0 }
+    ensures paths { paths.new ≡ paths.old }
     ensures derivation { OnOk result (IsDerivation basis.now.closed.now.ontology derivation.new) }
     ensures longer { OnOk result (Lengthens derivation.old derivation.new) }
     ensures shown { IfOk result (λ v. ShowsLedUp basis.now.closed.now.saturation derivation.new property older.0 v.items) }
@@ -69,7 +72,7 @@ fn lifted_to<L: LineSink>(
                 property: below,
                 ends,
             };
-            let numbers = lifted(basis, derivation, known, edge, above)?;
+            let numbers = lifted(basis, paths, derivation, known, edge, above)?;
             Ok(numbers)
         }
         _ => Ok(known),
@@ -84,16 +87,18 @@ fn lifted_to<L: LineSink>(
 /// `Memory` where memory was refused.
 pub(crate) fn premises<L: LineSink>(
     basis: &Basis<'_>,
+    paths: &mut PropertyPaths<'_>,
     derivation: &mut Derivation<L>,
     shown: &LinesByFact,
     older: Older,
     form: &Form,
 ) -> Result<LineNumbers, Memory>
-    requires paths { basis.now.paths.now ≡ basis.now.closed.now.saturation.state.problem.forms }
+    requires paths { paths.old ≡ basis.now.closed.now.saturation.state.problem.forms }
     requires derivation { IsDerivation basis.now.closed.now.ontology derivation.old }
     requires there { (m : ℕ) → Contains (numbers_of older) m → m < length basis.now.closed.now.saturation.state.facts }
     requires shown { (m : ℕ) → Contains (numbers_of older) m → ShowsFact basis.now.closed.now.saturation derivation.old m (list_at shown.now m) }
     requires below { LeadUpAt basis.now.closed.now.saturation form.now (numbers_of older) }
+    ensures paths { paths.new ≡ paths.old }
     ensures derivation { OnOk result (IsDerivation basis.now.closed.now.ontology derivation.new) }
     ensures longer { OnOk result (Lengthens derivation.old derivation.new) }
     ensures shown { IfOk result (λ v. ShowsTaken basis.now.closed.now.saturation derivation.new form.now (numbers_of older) v.items) }
@@ -103,14 +108,14 @@ pub(crate) fn premises<L: LineSink>(
         Older::None => Ok(SmallVec::new(basis.alloc)),
         Older::One(only) => {
             let property = first_property(form);
-            let numbers = lifted_to(basis, derivation, shown, only, property)?;
+            let numbers = lifted_to(basis, paths, derivation, shown, only, property)?;
             Ok(numbers)
         }
         Older::Two(first, second) => {
             let property = first_property(form);
-            let mut numbers = lifted_to(basis, derivation, shown, first, property)?;
+            let mut numbers = lifted_to(basis, paths, derivation, shown, first, property)?;
             let property = second_property(form);
-            let more = lifted_to(basis, derivation, shown, second, property)?;
+            let more = lifted_to(basis, paths, derivation, shown, second, property)?;
             numbers.extend_from_slice(more.as_slice())?;
             Ok(numbers)
         }

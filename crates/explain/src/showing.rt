@@ -13,6 +13,7 @@ use crate::line::{concluded, fact_of};
 use crate::lines_by_fact::{LineNumbers, LinesByFact};
 use crate::next_fact::NextFact;
 use crate::nothing::carried_back;
+use crate::paths::PropertyPaths;
 use crate::sink::LineSink;
 use axioms::Memory;
 use certificate::Rule;
@@ -68,15 +69,17 @@ fn shown_without_form<L: LineSink>(
 /// `Memory` where memory was refused.
 pub(crate) fn show<L: LineSink>(
     basis: &Basis<'_>,
+    paths: &mut PropertyPaths<'_>,
     derivation: &mut Derivation<L>,
     shown: &LinesByFact,
     fact: FactId,
 ) -> Result<LineNumbers, Memory>
-    requires paths { basis.now.paths.now ≡ basis.now.closed.now.saturation.state.problem.forms }
+    requires paths { paths.old ≡ basis.now.closed.now.saturation.state.problem.forms }
     requires there { fact.0 < length basis.now.closed.now.saturation.state.facts }
     requires derivation { IsDerivation basis.now.closed.now.ontology derivation.old }
     requires older { AreOlderShown basis.now.closed.now.saturation derivation.old shown.now fact.0 }
-    ensures { IfOk result (λ numbers. ShowsNext basis.now.closed.now.ontology basis.now.closed.now.saturation shown.now fact.0 derivation.old derivation.new numbers.items) }
+    ensures paths { paths.new ≡ paths.old }
+    ensures shown { IfOk result (λ numbers. ShowsNext basis.now.closed.now.ontology basis.now.closed.now.saturation shown.now fact.0 derivation.old derivation.new numbers.items) }
 {
     basis.closed.well_formed();
     let Some(birth) = basis.closed.born(fact) else {
@@ -86,7 +89,7 @@ pub(crate) fn show<L: LineSink>(
     let next = NextFact { fact, birth, shown };
     match birth.form() {
         Some(form) => {
-            let numbers = shown_by_form(basis, derivation, &next, form)?;
+            let numbers = shown_by_form(basis, paths, derivation, &next, form)?;
             Ok(numbers)
         }
         None => {

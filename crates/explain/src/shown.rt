@@ -28,34 +28,32 @@ use normalise::property_forms_are_named;
 use number_sets::Row;
 
 // The paths from each property to those above it.
-fn paths_of(closed: &Closed<'_>) -> Result<PropertyPaths, Memory>
+fn paths_of<'a>(closed: &Closed<'a>) -> Result<PropertyPaths<'a>, Memory>
     ensures { IfOk result (λ p. p ≡ closed.now.saturation.state.problem.forms) }
 {
     closed.well_formed();
     let ontology = closed.ontology();
     ontology.bounded();
     property_forms_are_named();
-    let normal = closed.normal();
-    normal.bounded();
-    PropertyPaths::new(
-        closed.allocator(),
-        ontology.properties().len(),
-        normal.forms(),
-    )
+    closed.normal().bounded();
+    let properties = ontology.properties().len();
+    PropertyPaths::new(closed.allocator(), properties, closed.problem())
 }
 
 // Shows the next fact, if it is marked.
 fn show_next<L: LineSink>(
     basis: &Basis<'_>,
+    paths: &mut PropertyPaths<'_>,
     marks: &Row,
     fact: FactId,
     derivation: &mut Derivation<L>,
     shown: &mut LinesByFact,
 ) -> Result<(), Memory>
-    requires ready { AreReady basis.now.closed.now.saturation basis.now.paths.now marks.now }
+    requires ready { AreReady basis.now.closed.now.saturation paths.old marks.now }
     requires there { fact.0 < length marks.now }
     requires next { fact.0 ≡ length shown.old }
     requires showing { IsShowing basis.now.closed.now.ontology basis.now.closed.now.saturation marks.now derivation.old shown.old }
+    ensures paths { paths.new ≡ paths.old }
     ensures next { OnOk result (length shown.new ≡ length shown.old + 1) }
     ensures showing { OnOk result (IsShowing basis.now.closed.now.ontology basis.now.closed.now.saturation marks.now derivation.new shown.new) }
 {
@@ -65,7 +63,7 @@ fn show_next<L: LineSink>(
         shown.push_list(&[])?;
         return Ok(());
     }
-    let numbers = show(basis, derivation, shown, fact)?;
+    let numbers = show(basis, paths, derivation, shown, fact)?;
     shown.push_list(numbers.as_slice())?;
     Ok(())
 }
@@ -73,14 +71,16 @@ fn show_next<L: LineSink>(
 // Goes on past a block of facts without a mark, or else shows the next fact, if it is marked.
 fn show_more<L: LineSink>(
     basis: &Basis<'_>,
+    paths: &mut PropertyPaths<'_>,
     marks: &Row,
     derivation: &mut Derivation<L>,
     shown: &mut LinesByFact,
 ) -> Result<(), Memory>
-    requires ready { AreReady basis.now.closed.now.saturation basis.now.paths.now marks.now }
+    requires ready { AreReady basis.now.closed.now.saturation paths.old marks.now }
     requires few { length marks.now < 2 ^ 32 }
     requires more { length shown.old < length marks.now }
     requires showing { IsShowing basis.now.closed.now.ontology basis.now.closed.now.saturation marks.now derivation.old shown.old }
+    ensures paths { paths.new ≡ paths.old }
     ensures more { OnOk result (length shown.old < length shown.new) }
     ensures showing { OnOk result (IsShowing basis.now.closed.now.ontology basis.now.closed.now.saturation marks.now derivation.new shown.new) }
 {
@@ -89,17 +89,19 @@ fn show_more<L: LineSink>(
         shown.skip_block()?;
         return Ok(());
     }
-    show_next(basis, marks, FactId(number as u32), derivation, shown)?;
+    let fact = FactId(number as u32);
+    show_next(basis, paths, marks, fact, derivation, shown)?;
     Ok(())
 }
 
 // Adds lines that show each marked fact to no lines.
 fn show_each<L: LineSink>(
     basis: &Basis<'_>,
+    paths: &mut PropertyPaths<'_>,
     marks: &Row,
     derivation: &mut Derivation<L>,
 ) -> Result<(), Memory>
-    requires ready { AreReady basis.now.closed.now.saturation basis.now.paths.now marks.now }
+    requires ready { AreReady basis.now.closed.now.saturation paths.old marks.now }
     requires few { length marks.now < 2 ^ 32 }
     requires none { derivation.old ≡ [] }
     ensures derivation { OnOk result (IsDerivation basis.now.closed.now.ontology derivation.new) }
@@ -107,7 +109,7 @@ fn show_each<L: LineSink>(
 {
     let mut shown = LinesByFact::with_room(basis.alloc, marks.len())?;
     while shown.len() < marks.len() {
-        show_more(basis, marks, derivation, &mut shown)?;
+        show_more(basis, paths, marks, derivation, &mut shown)?;
     }
     Ok(())
 }
@@ -130,14 +132,11 @@ pub(crate) fn add_lines<L: LineSink>(
 {
     closed.well_formed();
     mark_older(closed, &mut marks);
-    let paths = paths_of(closed)?;
-    let basis = Basis {
-        alloc: closed.allocator(),
-        closed,
-        paths: &paths,
-    };
-    let mut derivation = Derivation::new(basis.alloc, sink);
-    show_each(&basis, &marks, &mut derivation)?;
+    let alloc = closed.allocator();
+    let basis = Basis { alloc, closed };
+    let mut paths = paths_of(closed)?;
+    let mut derivation = Derivation::new(alloc, sink);
+    show_each(&basis, &mut paths, &marks, &mut derivation)?;
     Ok(derivation.into_sink())
 }
 

@@ -50,8 +50,8 @@ leading g c =
     subst (LeadsBy o s c.premises.new.derivation c.in_ok-numbers.numbers.items f)
     (sym (c.origin_rule-rule.ensures ∙ ap₂ (λ (p : Ontology) (v : Listing). origin_rule p (option_map origin_in (slice_get v.entries c.args.form)) c.args.step.now) c.ontology.ensures c.normal-normal.ensures)) to
 
-pub returns : goal.returns
-returns g c =
+pub returns-clause-shown : goal.returns-clause-shown
+returns-clause-shown g c =
     let o = c.args.basis.now.closed.now.ontology in
     let s = c.args.basis.now.closed.now.saturation in
     let r = reason c.args.next.now.birth.now in

@@ -10,8 +10,8 @@ use Rattle.explain.proofs.Formless.{form_of_birth}
 use Rattle.explain.proofs.Used.{used_of_none}
 use Rattle.explain.proofs.by_form.shown_by_form.Goals as goal
 
-pub returns-then-condition-eq-BY_DIFFERENT : goal.returns-then-condition-eq-BY_DIFFERENT
-returns-then-condition-eq-BY_DIFFERENT g c =
+pub returns-then-condition-eq-BY_DIFFERENT-clause-shown : goal.returns-then-condition-eq-BY_DIFFERENT-clause-shown
+returns-then-condition-eq-BY_DIFFERENT-clause-shown g c =
     let s = c.args.basis.now.closed.now.saturation in
     let r = reason c.args.next.now.birth.now in
     let (f, at) = slice_get_there s.state.facts c.args.next.now.fact.0 c.requires.next.there in

@@ -1,4 +1,4 @@
-use Rattle.std.proofs.Common.{◌≡◌, get_or, slice_get, Some, inl, inr, subst, arith}
+use Rattle.std.proofs.Common.{◌≡◌, ◌∙◌, get_or, slice_get, Some, inl, inr, subst, arith}
 use Rattle.explain.specs.LinesOfFacts.{AreShowing}
 use Rattle.explain.proofs.Growing.{lengthened_twice}
 use Rattle.explain.proofs.LiftedEdges.{path_on, stays}
@@ -14,11 +14,11 @@ use Rattle.explain.proofs.lifting.lifted.Goals.{in_default-via-in-Property+in_de
 pub loop-form-preserved : goal.loop-form-preserved
 loop-form-preserved g c =
     let (r, to, above, path, shown) = c.loop-form.invariant.shown in
-    let (t, at, rest) = path_on c.args.basis.now.paths.now r to c.deref-form-items.result.now c.loop-form.form-index 0 (omega (arith, c.loop-form-test.true)) path in
+    let (t, at, rest) = path_on c.path.new.self r to c.deref-form-items.result.now c.loop-form.form-index 0 (omega (arith, c.loop-form-test.true)) path in
     record {
       derivation = c.in_ok-lines.ensures.derivation;
       longer = lengthened_twice c.loop-form.invariant.longer c.in_ok-lines.ensures.longer;
-      shown = (t, to, above, rest, c.in_ok-lines.ensures.shown r t (record { leads = subst (λ fs. slice_get fs (get_or c.deref-form-items.result.now c.loop-form.form-index 0) ≡ Some (N5 r t)) c.requires.paths at; shown = shown }));
+      shown = (t, to, above, rest, c.in_ok-lines.ensures.shown r t (record { leads = subst (λ fs. slice_get fs (get_or c.deref-form-items.result.now c.loop-form.form-index 0) ≡ Some (N5 r t)) (c.path.ensures.same ∙ c.requires.paths) at; shown = shown }));
       used = used_twice c.args.derivation.now c.loop-form.derivation c.lifted_by.new.derivation (IsAmong c.args.numbers.items) c.loop-form.lines.items c.in_ok-lines.lines.items c.in_ok-lines.ensures.longer c.loop-form.invariant.used c.in_ok-lines.ensures.used;
     }
 

@@ -13,6 +13,6 @@ abbrev pub invariant-loop-form : goal.invariant-loop-form
 invariant-loop-form g l = record {
   derivation : IsDerivation l.basis.closed.now.ontology l.derivation;
   longer : Lengthens l.initial.derivation l.derivation;
-  shown : (r : PropId) × (to : PropId) × (l.fn.above ≡ Property to) × IsPath l.basis.paths.now r (drop l.form-index l.form-items) to × AreShowing (prefixes_of l.basis.closed.now.saturation.normal) l.derivation l.lines.items (Edge l.edge.ends.source (Property r) l.edge.ends.target);
+  shown : (r : PropId) × (to : PropId) × (l.fn.above ≡ Property to) × IsPath l.initial.paths r (drop l.form-index l.form-items) to × AreShowing (prefixes_of l.basis.closed.now.saturation.normal) l.derivation l.lines.items (Edge l.edge.ends.source (Property r) l.edge.ends.target);
   used : Uses l.initial.derivation l.derivation (IsAmong l.fn.numbers.items) l.lines.items;
 }

@@ -31,6 +31,6 @@ returns-clause-showing g c =
     let numbers = c.in_ok-numbers.numbers.items in
     let more = showing_more o s marks c.args.derivation.now c.show.new.derivation shown numbers fact.0
     (subst (λ k. slice_get s.state.facts k ≡ Some fact.0) next fact.1) (subst (IsMarked marks) next marked) c.well_formed-2.ensures.saturated c.requires.ready.within
-    c.requires.showing c.in_ok-numbers.ensures.derivation c.in_ok-numbers.ensures.longer (c.in_ok-numbers.ensures.shown fact.0 fact.1)
-    (subst (λ k. EachIsUsed s shown k c.args.derivation.now c.show.new.derivation numbers) next c.in_ok-numbers.ensures.used) in
+    c.requires.showing c.in_ok-numbers.ensures.shown.derivation c.in_ok-numbers.ensures.shown.longer (c.in_ok-numbers.ensures.shown.shown fact.0 fact.1)
+    (subst (λ k. EachIsUsed s shown k c.args.derivation.now c.show.new.derivation numbers) next c.in_ok-numbers.ensures.shown.used) in
     rw (c.in_ok-push_list-2.ensures.ok, c.as_slice.ensures) more

@@ -1,21 +1,27 @@
-use Rattle.std.proofs.Common.{List, length, Contains, sym, ap, ◌∙◌, subst, arith}
-use Rattle.std.proofs.lemmas.Option.{slice_get_within}
+use Rattle.std.proofs.Common.{◌≡◌, ◌∷◌, [], ◌++◌, List, length, sym, ap, subst, arith}
+use Rattle.std.proofs.lemmas.List.{length_push}
 use Rattle.number_sets.specs.Pieces.{list_at}
+use Rattle.number_sets.proofs.Members.{each_more}
 use Rattle.explain.specs.declared.told.Told.{Told}
-use Rattle.explain.specs.Search.{AreLeadsWithin, LeadsOver}
+use Rattle.explain.specs.Search.{AreToldOf, LeadsOver}
+use Rattle.explain.proofs.Telling.{all_lists}
 use Rattle.explain.proofs.told.all_links.Goals as goal
 
-pub tell_over-requires-clause-within : goal.tell_over-requires-clause-within
-tell_over-requires-clause-within c = subst (λ k. AreLeadsWithin k (LeadsOver c.args.forms.now)) (sym c.loop-number.invariant.long) c.requires.within
+pub loop-number-preserved : goal.loop-number-preserved
+loop-number-preserved c =
+    let Leads = LeadsOver c.args.problem.now.forms in
+    let before = c.loop-number.invariant in
+    let lists = c.loop-number.links in
+    let number = c.loop-number.number in
+    let list = c.deref.result.now in
+    let is : c.push_list.new.self ≡ lists ++ list ∷ [] = c.in_ok-push_list.ensures.ok in
+    let last : AreToldOf Leads number list = subst (AreToldOf Leads number) (sym c.deref.ensures.value) c.in_ok-list.ensures in record {
+      long = omega (arith, ap length is, length_push lists list, before.long);
+      each = λ r low. subst (λ (l : List (List Told)). AreToldOf Leads r (list_at l r)) (sym is) (each_more (AreToldOf Leads) lists list number before.long before.each last r low);
+    }
 
 pub returns : goal.returns
 returns c =
-    let forms = c.args.forms.now in
-    let before = c.loop-number.invariant in
-    let is = c.in_ok-packed.ensures in record {
-      long = ap length is ∙ before.long;
-      exact = λ r t. (
-        λ h. ((before.exact r t).0 (subst (λ (l : List (List Told)). Contains (list_at l r) t) is h)).1,
-        λ h. subst (λ (l : List (List Told)). Contains (list_at l r) t) (sym is) ((before.exact r t).1 (omega (arith, slice_get_within forms t.form h.0 h.1, c.loop-number-test.false, c.len-number-end.ensures), h)),
-      );
-    }
+    all_lists (LeadsOver c.args.problem.now.forms) c.args.individuals c.loop-number.links c.requires.within
+    (omega (arith, c.loop-number.invariant.long, c.loop-number-test.false, c.loop-number.auto.number-end))
+    (λ r low. c.loop-number.invariant.each r (omega (arith, low, c.loop-number-test.false)))

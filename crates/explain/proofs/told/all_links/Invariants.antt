@@ -1,9 +1,10 @@
-use Rattle.std.proofs.Common.{◌≡◌, length}
-use Rattle.explain.specs.Search.{AreToldBefore, LeadsOver}
+use Rattle.std.proofs.Common.{◌≡◌, ℕ, ◌<◌, length}
+use Rattle.number_sets.specs.Pieces.{list_at}
+use Rattle.explain.specs.Search.{AreToldOf, LeadsOver}
 use Rattle.explain.proofs.told.all_links.Given as goal
 
 abbrev pub invariant-loop-number : goal.invariant-loop-number
 invariant-loop-number l = record {
-  long : length l.links ≡ l.individuals;
-  exact : AreToldBefore (LeadsOver l.forms) l.number l.links;
+  long : length l.links ≡ l.number;
+  each : (r : ℕ) → r < l.number → AreToldOf (LeadsOver l.problem.forms) r (list_at l.links r);
 }
