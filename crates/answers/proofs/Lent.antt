@@ -1,10 +1,11 @@
 -- What holds of what is lent holds of what lends it.
-use Rattle.std.proofs.Common.{◌≡◌, List, ap, ◌∙◌, subst}
+use Rattle.std.proofs.Common.{◌≡◌, ℕ, List, ap, sym, ◌∙◌, subst}
 use Rattle.axioms.specs.Ontology.{Ontology}
 use Rattle.axioms.specs.WellFormedness.{IsOntology}
 use Rattle.engine.specs.Closed.{Closed}
 use Rattle.engine.specs.Saturations.{IsSaturated}
 use Rattle.facts.specs.declared.contexts.Fact.{Fact}
+use Rattle.saturate.specs.ServedFacts.{AreNumbersOf}
 
 pub whole_ontology : {a b : Closed} → a ≡ b → IsOntology a.ontology → IsOntology b.ontology
 whole_ontology is w = subst (λ (k : Closed). IsOntology k.ontology) is w
@@ -17,3 +18,6 @@ same_ontology of is = of ∙ ap (λ (k : Closed). k.ontology) is
 
 pub same_facts : {a b : Closed} {facts : List Fact} → facts ≡ a.saturation.state.facts → a ≡ b → facts ≡ b.saturation.state.facts
 same_facts of is = of ∙ ap (λ (k : Closed). k.saturation.state.facts) is
+
+pub same_numbers : {a b : Closed} {facts : List Fact} (P : Fact → Type 0) (numbers : List ℕ) → facts ≡ a.saturation.state.facts → a ≡ b → AreNumbersOf P b.saturation.state.facts numbers → AreNumbersOf P facts numbers
+same_numbers P numbers of is are = subst (λ (fs : List Fact). AreNumbersOf P fs numbers) (sym (same_facts of is)) are

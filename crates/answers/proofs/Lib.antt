@@ -1,6 +1,5 @@
 pub mod Naming
 pub mod MarkWords
-pub mod Marking
 pub mod AnsweredByFacts
 pub mod NamedThings
 pub mod Deriving

@@ -1,20 +1,18 @@
 -- Marks that are made step after step, and those on the numbers that facts give.
-use Rattle.std.proofs.Common.{◌≡◌, ◌↔◌, ℕ, ◌+◌, ◌<◌, ◌≤◌, ◌⊎◌, inl, inr, ⊎_elim, Bool, true, false, List, length, replicate, slice_get, Option, Some, Contains, refl, sym, ◌∙◌, subst, arith, below_more}
+use Rattle.std.proofs.Common.{◌≡◌, ◌↔◌, ℕ, ◌+◌, ◌<◌, ◌≤◌, ◌⊎◌, inl, inr, ⊎_elim, Bool, true, false, List, length, replicate, slice_get, Option, Some, None, Contains, refl, sym, ◌∙◌, subst, arith, below_more}
 use Rattle.std.specs.Prelude.{slice_set}
 use Rattle.std.proofs.lemmas.Bool.{false≢true}
 use Rattle.std.proofs.lemmas.List.{length-replicate}
-use Rattle.std.proofs.lemmas.Option.{same_Some, slice_get_within}
+use Rattle.std.proofs.lemmas.Option.{none-some, same_Some, slice_get_within}
 use Rattle.lemmas.proofs.Members.{slice_get-from_Contains}
 use Rattle.number_sets.proofs.Members.{has_none, has_set_cases, has_set_grows, has_set_same, has_within}
 use Rattle.axioms.specs.Ontology.{Ontology}
-use Rattle.facts.specs.declared.contexts.Context.TheVariants as contexts
+use Rattle.facts.specs.declared.contexts.Context.{Context}
 use Rattle.facts.specs.declared.contexts.Fact.{Fact}
 use Rattle.indexes.specs.FactIndex.{IsIn}
 use Rattle.classification.specs.Lists.{SomeFact}
-use Rattle.answers.specs.Selections.{Answers, AreGiven, IsOnly, MayAnswer}
+use Rattle.answers.specs.Selections.{AreGiven, IsOnly, PutsInClass}
 use Rattle.answers.specs.Names.{IsMarked}
-use Rattle.answers.specs.declared.selection.Selection.{Selection}
-use Rattle.answers.specs.declared.selection.Selection.TheVariants.{Above, Below, Members, Types}
 
 -- one of the first k steps gives the number
 abbrev pub GivenBefore : (ℕ → ℕ → Type 0) → ℕ → ℕ → Type 0
@@ -65,6 +63,9 @@ module _ (gives : ℕ → ℕ → Type 0) (size k : ℕ) (marks : List Bool) (ar
         λ mark. ⊎_elim (λ s. absurd (false≢true (sym (has_none size n) ∙ s))) (λ v. v) (is.0 mark),
         λ v. is.1 (inr v),
       )
+
+pub none_given : (gives : ℕ → Type 0) → ((n : ℕ) → gives n → ⊥) → IsOnly gives None
+none_given gives never n = (λ g. absurd (never n g), λ e. absurd (none-some n e))
 
 -- ---- by what stands at each place of a list
 
@@ -141,10 +142,7 @@ module _ (gives : Fact → ℕ → Type 0) (facts : List Fact) (marks found : Li
     λ h. ⊎_elim (λ m. m) (λ (e, m, given). absurd (never (subst (IsMarked marks) e m) (subst (λ (j : ℕ). SomeFact facts (λ fact. gives fact j)) e given))) h,
   ))
 
--- ---- which facts may answer
+-- ---- which facts put a context in a class
 
-pub may_answer : (o : Ontology) (q : Selection) (f : Fact) (n : ℕ) → Answers o q f n → MayAnswer q f
-may_answer o (Above e) f n (h, class, puts) = subst (IsIn (contexts.Expr e)) (sym puts) refl
-may_answer o (Below e) f n given = tt
-may_answer o (Members e) f n given = tt
-may_answer o (Types a) f n (h, class, puts) = subst (IsIn (contexts.Individual a)) (sym puts) refl
+pub is_in : (o : Ontology) (x : Context) (f : Fact) (n : ℕ) → PutsInClass o x f n → IsIn x f
+is_in o x f n (e, class, puts) = subst (IsIn x) (sym puts) refl

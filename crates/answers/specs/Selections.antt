@@ -6,10 +6,10 @@ use Rattle.classification.specs.Lists.{SomeFact}
 use Rattle.closure.specs.Closure.{Context, Expression, Individual}
 use Rattle.engine.specs.Saturations.{Saturated}
 use Rattle.exactness.specs.ListedInterpretation.{IsConsistent}
+use Rattle.facts.specs.declared.contexts.Context as code
 use Rattle.facts.specs.declared.contexts.Context.TheVariants as contexts
 use Rattle.facts.specs.declared.contexts.Fact.{Fact}
 use Rattle.facts.specs.declared.contexts.Fact.TheVariants.{In}
-use Rattle.indexes.specs.FactIndex.{IsIn}
 use Rattle.interpretation_spec.specs.Interpretation.{IsBelow, IsMember}
 use Rattle.normal_forms.specs.declared.forms.Class2.TheVariants.{Expr}
 use Rattle.answers.specs.Names.{IsMarked}
@@ -39,28 +39,29 @@ FollowsFor o (Types a) name = IsMember (axiom_trees o) (individual_name o a.0) (
 
 -- ---- by facts
 
+-- the fact puts the context in the expression of number f
+abbrev pub PutsContext : Fact → code.Context → ℕ → Type 0
+PutsContext fact x f = fact ≡ In (Expr (record { 0 = f })) x
+
 -- the fact puts the expression of number e in that of number f
 abbrev pub PutsExpression : Fact → ℕ → ℕ → Type 0
-PutsExpression fact e f = fact ≡ In (Expr (record { 0 = f })) (contexts.Expr (record { 0 = e }))
+PutsExpression fact e f = PutsContext fact (contexts.Expr (record { 0 = e })) f
 
 -- the fact puts the individual of number a in the expression of number f
 abbrev pub PutsIndividual : Fact → ℕ → ℕ → Type 0
-PutsIndividual fact a f = fact ≡ In (Expr (record { 0 = f })) (contexts.Individual (record { 0 = a }))
+PutsIndividual fact a f = PutsContext fact (contexts.Individual (record { 0 = a })) f
+
+-- the fact puts the context in the class of number n
+abbrev pub PutsInClass : Ontology → code.Context → Fact → ℕ → Type 0
+PutsInClass o x fact n = (f : ℕ) × IsClassAt o n f × PutsContext fact x f
 
 -- the fact answers the question with this number: of a class that the expression is put in, or that is put in the expression or in
 -- owl:Nothing, of an individual that is put in the expression, or of a class that the individual is put in
 abbrev pub Answers : Ontology → Selection → Fact → ℕ → Type 0
-Answers o (Above e) fact n = (f : ℕ) × IsClassAt o n f × PutsExpression fact e.0 f
+Answers o (Above e) fact n = PutsInClass o (contexts.Expr e) fact n
 Answers o (Below e) fact n = (f : ℕ) × IsClassAt o n f × (PutsExpression fact f e.0 ⊎ PutsExpression fact f nothing)
 Answers o (Members e) fact n = PutsIndividual fact n e.0
-Answers o (Types a) fact n = (f : ℕ) × IsClassAt o n f × PutsIndividual fact a.0 f
-
--- such facts alone may answer it: those that put a class into the expression or the individual that is asked about, or any
-abbrev pub MayAnswer : Selection → Fact → Type 0
-MayAnswer (Above e) fact = IsIn (contexts.Expr e) fact
-MayAnswer (Below e) fact = Unit {0}
-MayAnswer (Members e) fact = Unit {0}
-MayAnswer (Types a) fact = IsIn (contexts.Individual a) fact
+Answers o (Types a) fact n = PutsInClass o (contexts.Individual a) fact n
 
 -- the number is the only one that is given, or none is
 abbrev pub IsOnly : (ℕ → Type 0) → Option ℕ → Type 0

@@ -1,13 +1,12 @@
 //! Marks on the numbers that facts answer with.
 ghost use Rattle.answers.specs.Names.{IsMarked};
 ghost use Rattle.answers.specs.Neighbours.{AreMarksAmong, AreMarksOf};
-ghost use Rattle.answers.specs.Selections.{Answers, AreGiven, FollowsFor, IsAnswer, IsEvery, MayAnswer, PutsExpression, PutsIndividual, context_asked, names_asked};
+ghost use Rattle.answers.specs.Selections.{Answers, AreGiven, FollowsFor, IsAnswer, IsEvery, IsOnly, PutsContext, PutsExpression, PutsInClass, PutsIndividual, context_asked, names_asked};
 ghost use Rattle.answers.specs.declared.selection.Selection.TheVariants as asked;
 ghost use Rattle.axioms.specs.Ontology.{nothing};
 ghost use Rattle.classification.specs.Lists.{SomeFact};
 ghost use Rattle.closure.specs.Closure.{IsRoot};
-ghost use Rattle.saturate.specs.ServedFacts.{AreNumbersOf};
-ghost use Rattle.std.specs.Prelude.{◌<◌, ◌≤◌, ◌^◌, ◌↔◌, ◌≡◌, ◌⊎◌, IfOk, IfSome, IsTrue, MatchOption, Some, length, ℕ};
+ghost use Rattle.std.specs.Prelude.{◌<◌, ◌≤◌, ◌^◌, ◌↔◌, ◌≡◌, ◌⊎◌, IfOk, IsTrue, MatchOption, Some, length, ℕ};
 
 use crate::named::class_numbered;
 use crate::selection::Selection;
@@ -17,93 +16,80 @@ use engine::{Closed, Indexed};
 use facts::{Context, Fact, StoredFact};
 use normal_forms::Class2;
 use number_sets::Row;
-use std::alloc::Global;
 
-/// The expression that the fact puts in another one, and that one; `None` where it puts none.
-fn expression_pair(fact: &StoredFact) -> Option<(ExprId, ExprId)>
-    ensures { MatchOption result ((e f : ℕ) → PutsExpression fact.now e f → ⊥) (λ p. PutsExpression fact.now p.0.0 p.1.0) }
+// ---- by one fact
+
+/// The expression that the fact puts in the class; `None` where it puts none in it.
+// What is asked of all facts is inlined: a call for each would cost more than the look at it.
+#[inline(always)]
+fn expression_in(fact: &StoredFact, class: ExprId) -> Option<ExprId>
+    ensures { MatchOption result ((e : ℕ) → PutsExpression fact.now e class.0 → ⊥) (λ e. PutsExpression fact.now e.0 class.0) }
 {
-    match fact.get() {
-        Fact::In(Class2::Expr(above), Context::Expr(expression)) => Some((expression, above)),
-        _ => None,
+    match fact.context_in(Class2::Expr(class))? {
+        Context::Expr(expression) => Some(expression),
+        Context::Individual(_) => None,
     }
 }
 
-/// The individual that the fact puts in an expression, and that expression; `None` where it puts none.
-fn individual_pair(fact: &StoredFact) -> Option<(IndId, ExprId)>
-    ensures { MatchOption result ((a f : ℕ) → PutsIndividual fact.now a f → ⊥) (λ p. PutsIndividual fact.now p.0.0 p.1.0) }
+/// The expression that the fact puts in the class or in `owl:Nothing`; `None` where it puts none in either.
+#[inline(always)]
+fn expression_below(fact: &StoredFact, class: ExprId) -> Option<ExprId>
+    ensures { MatchOption result ((e : ℕ) → (PutsExpression fact.now e class.0 ⊎ PutsExpression fact.now e nothing) → ⊥)
+        (λ e. PutsExpression fact.now e.0 class.0 ⊎ PutsExpression fact.now e.0 nothing) }
 {
-    match fact.get() {
-        Fact::In(Class2::Expr(above), Context::Individual(individual)) => {
-            Some((individual, above))
-        }
-        _ => None,
-    }
-}
-
-/// The class above the expression by the fact.
-fn above(ontology: &Ontology, expression: ExprId, fact: &StoredFact) -> Option<usize>
-    ensures { IsAnswer ontology.now (asked.Above expression) fact.now result }
-{
-    let (below, above) = expression_pair(fact)?;
-    if below == expression {
-        let class = ontology.class_of(above)?;
-        Some(class.index())
-    } else {
-        None
+    match expression_in(fact, class) {
+        Some(expression) => Some(expression),
+        None => expression_in(fact, ExprId::NOTHING),
     }
 }
 
 /// The class below the expression or below `owl:Nothing` by the fact.
+#[inline(always)]
 fn below(ontology: &Ontology, expression: ExprId, fact: &StoredFact) -> Option<usize>
     ensures { IsAnswer ontology.now (asked.Below expression) fact.now result }
 {
-    let (below, above) = expression_pair(fact)?;
-    if above == expression || above == ExprId::NOTHING {
-        let class = ontology.class_of(below)?;
-        Some(class.index())
-    } else {
-        None
+    let below = expression_below(fact, expression)?;
+    let class = ontology.class_of(below)?;
+    Some(class.index())
+}
+
+/// The individual that the fact puts in the class; `None` where it puts none in it.
+#[inline(always)]
+fn individual_in(fact: &StoredFact, class: ExprId) -> Option<IndId>
+    ensures { MatchOption result ((a : ℕ) → PutsIndividual fact.now a class.0 → ⊥) (λ a. PutsIndividual fact.now a.0 class.0) }
+{
+    match fact.context_in(Class2::Expr(class))? {
+        Context::Expr(_) => None,
+        Context::Individual(individual) => Some(individual),
     }
 }
 
 /// The individual in the expression by the fact.
+#[inline(always)]
 fn member(ontology: &Ontology, expression: ExprId, fact: &StoredFact) -> Option<usize>
     ensures { IsAnswer ontology.now (asked.Members expression) fact.now result }
 {
-    let (individual, above) = individual_pair(fact)?;
-    if above == expression {
-        Some(individual.index())
-    } else {
-        None
+    let individual = individual_in(fact, expression)?;
+    Some(individual.index())
+}
+
+/// The expression that the fact puts the context in; `None` where it puts it in none.
+fn expression_above(fact: &StoredFact, context: Context) -> Option<ExprId>
+    ensures { MatchOption result ((f : ℕ) → PutsContext fact.now context f → ⊥) (λ f. PutsContext fact.now context f.0) }
+{
+    match fact.get() {
+        Fact::In(Class2::Expr(above), below) if below == context => Some(above),
+        _ => None,
     }
 }
 
-/// The class that the individual is in by the fact.
-fn class_of(ontology: &Ontology, individual: IndId, fact: &StoredFact) -> Option<usize>
-    ensures { IsAnswer ontology.now (asked.Types individual) fact.now result }
+/// The class above the context by the fact.
+fn above(ontology: &Ontology, context: Context, fact: &StoredFact) -> Option<usize>
+    ensures { IsOnly (PutsInClass ontology.now context fact.now) result }
 {
-    let (member, expression) = individual_pair(fact)?;
-    if member == individual {
-        let class = ontology.class_of(expression)?;
-        Some(class.index())
-    } else {
-        None
-    }
-}
-
-/// The number that the fact answers the question with.
-// A call for each fact would double what it costs to go over all.
-#[inline(always)]
-fn answer(ontology: &Ontology, question: Selection, fact: &StoredFact) -> Option<usize>
-    ensures { IsAnswer ontology.now question fact.now result }
-{
-    match question {
-        Selection::Above(expression) => above(ontology, expression, fact),
-        Selection::Below(expression) => below(ontology, expression, fact),
-        Selection::Members(expression) => member(ontology, expression, fact),
-        Selection::Types(individual) => class_of(ontology, individual, fact),
-    }
+    let above = expression_above(fact, context)?;
+    let class = ontology.class_of(above)?;
+    Some(class.index())
 }
 
 /// Marks the number, if it is one of those that have marks.
@@ -116,53 +102,50 @@ pub(crate) fn mark(marks: &mut Row, n: Option<usize>)
     }
 }
 
-/// Of the marked numbers, marks on those that a fact answers with. Others may have marks, too.
-fn marked_by(
-    alloc: Global,
-    ontology: &Ontology,
-    facts: &[StoredFact],
-    question: Selection,
-    marks: &Row,
-) -> Result<Row, Memory>
-    ensures { IfOk result (λ found. AreGiven (Answers ontology.now question) facts.now marks.now found) }
-{
-    let mut found = Row::new(alloc, marks.len())?;
-    for fact in facts {
-        mark(&mut found, answer(ontology, question, fact));
-    }
-    Ok(found)
-}
+// ---- by the facts of one context, and by all facts
 
-/// The same, by the facts of these numbers, among which are all that may answer.
-fn marked_among(
-    alloc: Global,
-    ontology: &Ontology,
-    facts: &[StoredFact],
-    numbers: &[u32],
-    question: Selection,
-    marks: &Row,
-) -> Result<Row, Memory>
-    requires { AreNumbersOf (MayAnswer question) facts.now numbers.now }
-    ensures { IfOk result (λ found. AreGiven (Answers ontology.now question) facts.now marks.now found) }
+/// Of the marked classes, marks on those that a fact puts the context in. Others may have marks, too.
+fn marked_above(indexed: &Indexed<'_>, context: Context, marks: &Row) -> Result<Row, Memory>
+    ensures { IfOk result (λ found. AreGiven (PutsInClass indexed.now.ontology context) indexed.now.saturation.state.facts marks.now found) }
 {
-    let mut found = Row::new(alloc, marks.len())?;
-    for number in numbers {
+    let closed = indexed.closed();
+    let ontology = closed.ontology();
+    let facts = closed.facts();
+    let mut found = Row::new(closed.allocator(), marks.len())?;
+    for number in indexed.classes_in(context) {
         let fact = &facts[*number as usize];
-        mark(&mut found, answer(ontology, question, fact));
+        mark(&mut found, above(ontology, context, fact));
     }
     Ok(found)
 }
 
-/// The numbers of the facts that may answer the question, where they are found without going over all facts.
-fn asked_facts<'a>(indexed: &Indexed<'a>, question: Selection) -> Option<&'a [u32]>
-    ensures { IfSome result (λ numbers. AreNumbersOf (MayAnswer question) indexed.now.saturation.state.facts numbers.now) }
+/// Of the marked classes, marks on those that a fact puts in the expression or in `owl:Nothing`. Others may have marks, too.
+fn marked_below(closed: &Closed<'_>, expression: ExprId, marks: &Row) -> Result<Row, Memory>
+    ensures { IfOk result (λ found. AreGiven (Answers closed.now.ontology (asked.Below expression)) closed.now.saturation.state.facts marks.now found) }
 {
-    match question {
-        Selection::Above(expression) => Some(indexed.classes_in(Context::Expr(expression))),
-        Selection::Types(individual) => Some(indexed.classes_in(Context::Individual(individual))),
-        Selection::Below(_) | Selection::Members(_) => None,
+    let ontology = closed.ontology();
+    let facts = closed.facts();
+    let mut found = Row::new(closed.allocator(), marks.len())?;
+    for fact in facts {
+        mark(&mut found, below(ontology, expression, fact));
     }
+    Ok(found)
 }
+
+/// Of the marked individuals, marks on those that a fact puts in the expression. Others may have marks, too.
+fn marked_members(closed: &Closed<'_>, expression: ExprId, marks: &Row) -> Result<Row, Memory>
+    ensures { IfOk result (λ found. AreGiven (Answers closed.now.ontology (asked.Members expression)) closed.now.saturation.state.facts marks.now found) }
+{
+    let ontology = closed.ontology();
+    let facts = closed.facts();
+    let mut found = Row::new(closed.allocator(), marks.len())?;
+    for fact in facts {
+        mark(&mut found, member(ontology, expression, fact));
+    }
+    Ok(found)
+}
+
+// ---- by the search for a fact
 
 /// Whether a fact puts the expression in the other one.
 fn is_put(indexed: &Indexed<'_>, expression: ExprId, above: ExprId) -> bool
@@ -177,31 +160,6 @@ fn is_empty(indexed: &Indexed<'_>, expression: ExprId) -> bool
     ensures { IsTrue result ↔ SomeFact indexed.now.saturation.state.facts (λ fact. PutsExpression fact expression.0 nothing) }
 {
     is_put(indexed, expression, ExprId::NOTHING)
-}
-
-/// Whether every name is an answer, since there is no interpretation or the expression has no element in any.
-fn is_every(indexed: &Indexed<'_>, question: Selection) -> bool
-    ensures { IsTrue result ↔ IsEvery indexed.now.ontology indexed.now.saturation question }
-{
-    if !is_consistent(indexed) {
-        return true;
-    }
-    match question {
-        Selection::Above(expression) => is_empty(indexed, expression),
-        Selection::Below(_) | Selection::Members(_) | Selection::Types(_) => false,
-    }
-}
-
-// ---- by looking for each
-
-/// Whether a fact puts the expression in the class of that number.
-fn is_found_above(indexed: &Indexed<'_>, expression: ExprId, number: u32) -> bool
-    ensures { IsTrue result ↔ SomeFact indexed.now.saturation.state.facts (λ fact. Answers indexed.now.ontology (asked.Above expression) fact number) }
-{
-    match class_numbered(indexed, number) {
-        Some(above) => is_put(indexed, expression, above),
-        None => false,
-    }
 }
 
 /// Whether a fact puts the class of that number in the expression or in `owl:Nothing`.
@@ -222,43 +180,28 @@ fn is_found_member(indexed: &Indexed<'_>, expression: ExprId, number: u32) -> bo
     indexed.find(wanted).is_some()
 }
 
-/// Whether a fact puts the individual in the class of that number.
-fn is_found_class(indexed: &Indexed<'_>, individual: IndId, number: u32) -> bool
-    ensures { IsTrue result ↔ SomeFact indexed.now.saturation.state.facts (λ fact. Answers indexed.now.ontology (asked.Types individual) fact number) }
-{
-    match class_numbered(indexed, number) {
-        Some(class) => is_found_member(indexed, class, individual.0),
-        None => false,
-    }
-}
-
-/// Whether a fact answers the question with the number.
-fn is_found(indexed: &Indexed<'_>, question: Selection, number: u32) -> bool
-    ensures { IsTrue result ↔ SomeFact indexed.now.saturation.state.facts (λ fact. Answers indexed.now.ontology question fact number) }
-{
-    match question {
-        Selection::Above(expression) => is_found_above(indexed, expression, number),
-        Selection::Below(expression) => is_found_below(indexed, expression, number),
-        Selection::Members(expression) => is_found_member(indexed, expression, number),
-        Selection::Types(individual) => is_found_class(indexed, individual, number),
-    }
-}
-
-/// Whether the number is marked, and a fact answers the question with it.
-fn is_answer(indexed: &Indexed<'_>, question: Selection, marks: &Row, number: u32) -> bool
-    ensures { IsTrue result ↔ (IsMarked marks.now number × SomeFact indexed.now.saturation.state.facts (λ fact. Answers indexed.now.ontology question fact number)) }
-{
-    marks.contains(number as usize) && is_found(indexed, question, number)
-}
-
-/// Of the marked numbers, marks on those that a fact answers with. Each is looked for.
-fn found_among(indexed: &Indexed<'_>, question: Selection, marks: &Row) -> Result<Row, Memory>
+/// As `marked_below`, where each marked class is looked for.
+fn found_below(indexed: &Indexed<'_>, expression: ExprId, marks: &Row) -> Result<Row, Memory>
     requires { length marks.now ≤ 2 ^ 32 }
-    ensures { IfOk result (λ found. AreGiven (Answers indexed.now.ontology question) indexed.now.saturation.state.facts marks.now found) }
+    ensures { IfOk result (λ found. AreGiven (Answers indexed.now.ontology (asked.Below expression)) indexed.now.saturation.state.facts marks.now found) }
 {
     let mut found = Row::new(indexed.closed().allocator(), marks.len())?;
     for n in 0..marks.len() {
-        if is_answer(indexed, question, marks, n as u32) {
+        if marks.contains(n) && is_found_below(indexed, expression, n as u32) {
+            found.put(n);
+        }
+    }
+    Ok(found)
+}
+
+/// As `marked_members`, where each marked individual is looked for.
+fn found_members(indexed: &Indexed<'_>, expression: ExprId, marks: &Row) -> Result<Row, Memory>
+    requires { length marks.now ≤ 2 ^ 32 }
+    ensures { IfOk result (λ found. AreGiven (Answers indexed.now.ontology (asked.Members expression)) indexed.now.saturation.state.facts marks.now found) }
+{
+    let mut found = Row::new(indexed.closed().allocator(), marks.len())?;
+    for n in 0..marks.len() {
+        if marks.contains(n) && is_found_member(indexed, expression, n as u32) {
             found.put(n);
         }
     }
@@ -282,13 +225,36 @@ fn answers_among(indexed: &Indexed<'_>, question: Selection, marks: &Row) -> Res
     ensures { IfOk result (λ found. AreGiven (Answers indexed.now.ontology question) indexed.now.saturation.state.facts marks.now found) }
 {
     let closed = indexed.closed();
-    let ontology = closed.ontology();
-    let alloc = closed.allocator();
-    let facts = closed.facts();
-    match asked_facts(indexed, question) {
-        Some(numbers) => marked_among(alloc, ontology, facts, numbers, question, marks),
-        None if are_few(closed, marks) => found_among(indexed, question, marks),
-        None => marked_by(alloc, ontology, facts, question, marks),
+    match question {
+        Selection::Above(expression) => marked_above(indexed, Context::Expr(expression), marks),
+        Selection::Types(individual) => marked_above(
+            indexed,
+            Context::Individual(individual),
+            marks,
+        ),
+        Selection::Below(expression) if are_few(closed, marks) => found_below(
+            indexed, expression, marks,
+        ),
+        Selection::Below(expression) => marked_below(closed, expression, marks),
+        Selection::Members(expression) if are_few(closed, marks) => found_members(
+            indexed, expression, marks,
+        ),
+        Selection::Members(expression) => marked_members(closed, expression, marks),
+    }
+}
+
+// ---- what follows
+
+/// Whether every name is an answer, since there is no interpretation or the expression has no element in any.
+fn is_every(indexed: &Indexed<'_>, question: Selection) -> bool
+    ensures { IsTrue result ↔ IsEvery indexed.now.ontology indexed.now.saturation question }
+{
+    if !is_consistent(indexed) {
+        return true;
+    }
+    match question {
+        Selection::Above(expression) => is_empty(indexed, expression),
+        Selection::Below(_) | Selection::Members(_) | Selection::Types(_) => false,
     }
 }
 

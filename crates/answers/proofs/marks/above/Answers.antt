@@ -1,11 +1,9 @@
 use Rattle.std.proofs.Common.{ℕ, Option, sym, subst}
-use Rattle.answers.specs.Selections.{IsAnswer}
-use Rattle.answers.specs.declared.selection.Selection.TheVariants.{Above}
-use Rattle.answers.proofs.Marking.{no_above}
+use Rattle.answers.specs.Selections.{IsOnly, PutsInClass}
+use Rattle.answers.proofs.MarkedFacts.{none_given}
 use Rattle.answers.proofs.marks.above.Goals as goal
 
-pub returns-in_err-below : goal.returns-in_err-below
-returns-in_err-below c =
-    let o = c.args.ontology.now in
-    let fact = c.args.fact.now in
-    subst (λ (answer : Option ℕ). IsAnswer o (Above c.args.expression) fact answer) (sym c.from_residual.ensures) (no_above o fact c.args.expression c.in_err-below.ensures)
+pub returns-in_err-above : goal.returns-in_err-above
+returns-in_err-above c =
+    let gives = PutsInClass c.args.ontology.now c.args.context c.args.fact.now in
+    subst (λ (answer : Option ℕ). IsOnly gives answer) (sym c.from_residual.ensures) (none_given gives (λ n v. c.in_err-above.ensures v.0 v.2))

@@ -1,7 +1,0 @@
-use Rattle.std.proofs.Common.{length, replicate, false}
-use Rattle.answers.specs.Selections.{Answers}
-use Rattle.answers.proofs.MarkedFacts.{AreMarksAfter, IsFound}
-use Rattle.answers.proofs.marks.found_among.Given as goal
-
-abbrev pub invariant-loop-n : goal.invariant-loop-n
-invariant-loop-n l = AreMarksAfter (IsFound (Answers l.indexed.ontology l.question) l.indexed.saturation.state.facts l.marks) (replicate (length l.marks) false) l.n l.found

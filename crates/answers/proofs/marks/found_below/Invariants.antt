@@ -1,0 +1,8 @@
+use Rattle.std.proofs.Common.{length, replicate, false}
+use Rattle.answers.specs.Selections.{Answers}
+use Rattle.answers.specs.declared.selection.Selection.TheVariants.{Below}
+use Rattle.answers.proofs.MarkedFacts.{AreMarksAfter, IsFound}
+use Rattle.answers.proofs.marks.found_below.Given as goal
+
+abbrev pub invariant-loop-n : goal.invariant-loop-n
+invariant-loop-n l = AreMarksAfter (IsFound (Answers l.indexed.ontology (Below l.expression)) l.indexed.saturation.state.facts l.marks) (replicate (length l.marks) false) l.n l.found

@@ -1,7 +1,0 @@
-use Rattle.std.proofs.Common.{length, replicate, false}
-use Rattle.answers.specs.Selections.{Answers}
-use Rattle.answers.proofs.MarkedFacts.{AreMarksAfter, At}
-use Rattle.answers.proofs.marks.marked_by.Given as goal
-
-abbrev pub invariant-loop-fact : goal.invariant-loop-fact
-invariant-loop-fact l = AreMarksAfter (At l.facts (Answers l.ontology l.question)) (replicate (length l.marks) false) l.fact-index l.found
