@@ -9,10 +9,10 @@ use Rattle.cli.proofs.Questions.{read_as_file}
 use Rattle.receiving.proofs.ReadFiles.{IsOfFiles, read_blamed, read_there}
 use Rattle.receiving.proofs.Spelled.{some}
 use Rattle.receiving.proofs.Stored.{IsLeftBy, IsSome, sink_begins, sink_holds, sink_stays}
+use Rattle.receiving.proofs.Written.{IsWritten}
 use Rattle.cli.specs.Files.{InfersFile}
 use Rattle.receiving.specs.Files.{IsSourceOf, Store}
 use Rattle.cli.specs.Inferring.{IsInferenceAnswer, IsInferenceRead, IsInferredBy}
-use Rattle.receiving.specs.HeldTexts.{AreOtherFilesKept}
 use Rattle.cli.specs.Runs.{IsInferAnswer, IsInferMade}
 use Rattle.cli.specs.declared.fault.InferenceFault.{InferenceFault}
 use Rattle.cli.specs.declared.fault.InferenceFault.TheVariants.{Run, Unwritten}
@@ -67,9 +67,9 @@ infers_file limits s held before after old new (Err (Run Limit)) document of non
 infers_file limits s held before after old new (Err (Run Memory)) document of none counted is read beyond =
     (read_there s.is_known held before after document read, counted.unfailed (ap (λ (d : Device). d.1) is.1 ∙ none))
 
-pub inference_made : (document output : List ℕ) (limits : Limits) (s : Store) (content content' : Content) (before after : SourceState) (old new : Device) (answer : Result Summary InferenceFault) → IsSourceOf s.is_known (content document) before → IsOfFiles s.reads_fail s.is_known after → old.0 ≡ nothing_taken s.is_known → old.1 ≡ 0 → IsLeftBy (content output) (content' output) new.0 → IsCounted s.failed_before s.failed_behind new.1 → AreOtherFilesKept output content content' → IsInferenceAnswer limits before.left (Takes old new) (FailsIn old new) (new ≡ old) answer → IsInferenceRead answer before after → (IsErrOf answer (Run (Document reading.TooLarge)) → after.most + limits.max_bytes < before.most) → IsInferMade document output limits s content content' answer
-inference_made document output limits s content content' before after old new answer is_source of fresh none closed counted others is read beyond = record {
-  answered = infer_answer document output limits s.is_known content content' before.left old new answer is_source.left fresh closed is;
-  blames = infers_file limits s (content document) before after old new answer is_source of none counted is read beyond;
-  others = others;
+pub inference_made : (document output : List ℕ) (limits : Limits) (s : Store) (content content' : Content) (before after : SourceState) (old new : Device) (answer : Result Summary InferenceFault) → IsSourceOf s.is_known (content document) before → IsOfFiles s.reads_fail s.is_known after → IsWritten s content content' output old new → IsInferenceAnswer limits before.left (Takes old new) (FailsIn old new) (new ≡ old) answer → IsInferenceRead answer before after → (IsErrOf answer (Run (Document reading.TooLarge)) → after.most + limits.max_bytes < before.most) → IsInferMade document output limits s content content' answer
+inference_made document output limits s content content' before after old new answer is_source of written is read beyond = record {
+  answered = infer_answer document output limits s.is_known content content' before.left old new answer is_source.left written.fresh written.left is;
+  blames = infers_file limits s (content document) before after old new answer is_source of written.working written.counted is read beyond;
+  others = written.others;
 }

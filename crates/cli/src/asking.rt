@@ -8,15 +8,29 @@ ghost use Rattle.std.specs.Prelude.{◌≡◌, IfErr, IfOk};
 
 use command_line::Command;
 use device::Sink;
-use profile::{DocumentFault, Limits};
+use profile::DocumentFault;
 use program::{Question, Spelling, Status};
-use receiving::source_of;
+use receiving::{Reading, source_of};
 use session::{QuestionFault, query_text, question_text};
 use speech::question_message;
-use std::alloc::Global;
-use std::hash::RandomState;
 use system_files::Files;
 use telling::{print_bytes, tell};
+
+/// A question about a document.
+#[derive(Clone, Copy)]
+pub(crate) struct AskRun<'a> {
+    pub reading: Reading<'a>,
+    pub question: Question<'a>,
+    pub spelling: Spelling,
+}
+
+/// A query of a class expression, by a document.
+#[derive(Clone, Copy)]
+pub(crate) struct QueryRun<'a> {
+    pub reading: Reading<'a>,
+    pub expression: &'a str,
+    pub spelling: Spelling,
+}
 
 /// The status that goes with the answer, where it is one: unsatisfiable classes are a rejection.
 fn answer_status(question: Question<'_>, answer: &Result<Vec<u8>, QuestionFault<'_>>) -> Status
@@ -34,99 +48,90 @@ fn answer_status(question: Question<'_>, answer: &Result<Vec<u8>, QuestionFault<
     }
 }
 
-/// Prints the answer, with the status that it has, or why there is none to a question about the document at the path.
+/// Prints the answer, with the status that it has, or why there is none to a question about the document.
 fn tell_answer<O: Sink, E: Sink>(
-    alloc: Global,
+    reading: &Reading<'_>,
     answer: Result<Vec<u8>, QuestionFault<'_>>,
     done: Status,
-    path: &str,
-    limits: &Limits,
     out: &mut O,
     err: &mut E,
 ) -> u8
-    ensures { IsQuestionTold path.now limits.now done answer.entry (outputs O.Sink E.Sink out.old err.old) (outputs O.Sink E.Sink out.new err.new) result }
+    ensures { IsQuestionTold reading.now.path.now reading.now.limits done answer.entry (outputs O.Sink E.Sink out.old err.old) (outputs O.Sink E.Sink out.new err.new) result }
 {
     match answer {
         Ok(text) => print_bytes(out, &text, done),
-        Err(fault) => tell(err, question_message(alloc, &fault, path, limits)),
+        Err(fault) => tell(
+            err,
+            question_message(reading.means.alloc, &fault, reading.path, &reading.limits),
+        ),
     }
 }
 
-/// The answer to the question, by the document at the path.
-fn answer_in<'n, F: Files>(
-    alloc: Global,
-    path: &str,
-    question: Question<'n>,
-    spelling: Spelling,
-    limits: &Limits,
-    files: &F,
-    state: RandomState,
-) -> Result<Vec<u8>, QuestionFault<'n>>
-    ensures answered { IfOk result (λ v. AnswersQuestion limits.now (F.content files.now path.now) question.entry spelling v.items) }
-    ensures fault { IfErr result (IsFaultOf limits.now (F.content files.now path.now) (names_in question.entry)) }
-    ensures blames { AsksFile F.reads_fail (F.is_known files.now) (F.content files.now path.now) result }
+/// The answer to the question, by the document.
+fn answer_in<'n, F: Files>(run: &AskRun<'n>, files: &F) -> Result<Vec<u8>, QuestionFault<'n>>
+    ensures answered { IfOk result (λ v. AnswersQuestion run.now.reading.limits (F.content files.now run.now.reading.path.now) run.now.question run.now.spelling v.items) }
+    ensures fault { IfErr result (IsFaultOf run.now.reading.limits (F.content files.now run.now.reading.path.now) (names_in run.now.question)) }
+    ensures blames { AsksFile F.reads_fail (F.is_known files.now) (F.content files.now run.now.reading.path.now) result }
 {
-    let Ok(mut document) = source_of(files, path) else {
+    let reading = &run.reading;
+    let Ok(mut document) = source_of(files, reading.path) else {
         return Err(QuestionFault::Document(DocumentFault::Memory));
     };
-    question_text(alloc, &mut document, question, spelling, limits, state)
+    question_text(
+        reading.means.alloc,
+        &mut document,
+        run.question,
+        run.spelling,
+        &reading.limits,
+        reading.means.state,
+    )
 }
 
-/// Prints the answer to the question, by the document at the path.
+/// Prints the answer to the question, by the document.
 pub(crate) fn perform_ask<F: Files, O: Sink, E: Sink>(
-    alloc: Global,
-    path: &str,
-    question: Question<'_>,
-    spelling: Spelling,
-    limits: &Limits,
+    run: &AskRun<'_>,
     files: &F,
     out: &mut O,
     err: &mut E,
-    state: RandomState,
 ) -> u8
-    ensures { Runs F.Files O.Sink E.Sink (Command.Ask path.entry question.entry spelling) limits.now
+    ensures { Runs F.Files O.Sink E.Sink (Command.Ask run.now.reading.path run.now.question run.now.spelling) run.now.reading.limits
         (files.now, out.old, err.old) (files.now, out.new, err.new) result }
 {
-    let answer = answer_in(alloc, path, question, spelling, limits, files, state);
-    let done = answer_status(question, &answer);
-    tell_answer(alloc, answer, done, path, limits, out, err)
+    let answer = answer_in(run, files);
+    let done = answer_status(run.question, &answer);
+    tell_answer(&run.reading, answer, done, out, err)
 }
 
-/// The lines that answer a query of the class expression, by the document at the path.
-fn query_in<F: Files>(
-    alloc: Global,
-    path: &str,
-    expression: &str,
-    spelling: Spelling,
-    limits: &Limits,
-    files: &F,
-    state: RandomState,
-) -> Result<Vec<u8>, QuestionFault<'static>>
-    ensures answered { IfOk result (λ v. AnswersQuery limits.now (F.content files.now path.now) expression.now spelling v.items) }
-    ensures fault { IfErr result (IsQueryFaultOf limits.now (F.content files.now path.now) expression.now) }
-    ensures blames { AsksFile F.reads_fail (F.is_known files.now) (F.content files.now path.now) result }
+/// The lines that answer the query, by the document.
+fn query_in<F: Files>(run: &QueryRun<'_>, files: &F) -> Result<Vec<u8>, QuestionFault<'static>>
+    ensures answered { IfOk result (λ v. AnswersQuery run.now.reading.limits (F.content files.now run.now.reading.path.now) run.now.expression.now run.now.spelling v.items) }
+    ensures fault { IfErr result (IsQueryFaultOf run.now.reading.limits (F.content files.now run.now.reading.path.now) run.now.expression.now) }
+    ensures blames { AsksFile F.reads_fail (F.is_known files.now) (F.content files.now run.now.reading.path.now) result }
 {
-    let Ok(mut document) = source_of(files, path) else {
+    let reading = &run.reading;
+    let Ok(mut document) = source_of(files, reading.path) else {
         return Err(QuestionFault::Document(DocumentFault::Memory));
     };
-    query_text(alloc, &mut document, expression, spelling, limits, state)
+    query_text(
+        reading.means.alloc,
+        &mut document,
+        run.expression,
+        run.spelling,
+        &reading.limits,
+        reading.means.state,
+    )
 }
 
 /// Prints the classes above and below the class expression, and its individuals.
 pub(crate) fn perform_query<F: Files, O: Sink, E: Sink>(
-    alloc: Global,
-    path: &str,
-    expression: &str,
-    spelling: Spelling,
-    limits: &Limits,
+    run: &QueryRun<'_>,
     files: &F,
     out: &mut O,
     err: &mut E,
-    state: RandomState,
 ) -> u8
-    ensures { Runs F.Files O.Sink E.Sink (Command.Query path.entry expression.entry spelling) limits.now
+    ensures { Runs F.Files O.Sink E.Sink (Command.Query run.now.reading.path run.now.expression run.now.spelling) run.now.reading.limits
         (files.now, out.old, err.old) (files.now, out.new, err.new) result }
 {
-    let answer = query_in(alloc, path, expression, spelling, limits, files, state);
-    tell_answer(alloc, answer, Status::Done, path, limits, out, err)
+    let answer = query_in(run, files);
+    tell_answer(&run.reading, answer, Status::Done, out, err)
 }

@@ -15,13 +15,21 @@ use classification::Summary;
 use command_line::Command;
 use device::{Sink, Source, write_all};
 use profile::{DocumentFault, Limits};
-use receiving::source_of;
+use receiving::{Reading, source_of};
 use session::{RunFault, as_question_fault, inference_of};
 use speech::question_message;
 use std::alloc::Global;
 use std::hash::RandomState;
 use system_files::Files;
 use telling::{tell, unwritten_message};
+
+/// What is inferred of a document, which is written into another file, or the same.
+#[derive(Clone, Copy)]
+pub(crate) struct InferRun<'a> {
+    pub reading: Reading<'a>,
+    /// The path of the file that is written.
+    pub output: &'a str,
+}
 
 /// Reads the document, and writes what is inferred of it, as a document: what `inference_of` gives. All is made in memory before anything
 /// is written. It gives the counts.
@@ -55,65 +63,65 @@ pub fn infer_document<D: Source, S: Sink>(
     }
 }
 
-/// Reads the document at the path, and writes what is inferred of it into the other file, which may be the same.
-fn inferred_file<F: Files>(
-    alloc: Global,
-    path: &str,
-    output: &str,
-    limits: &Limits,
-    files: &mut F,
-    state: RandomState,
-) -> Result<Summary, InferenceFault>
-    ensures { IsInferMade path.now output.now limits.now (store F.Files files.old files.new) (F.content files.old) (F.content files.new) result }
+/// Reads the document, and writes what is inferred of it into the other file.
+fn inferred_file<F: Files>(run: &InferRun<'_>, files: &mut F) -> Result<Summary, InferenceFault>
+    ensures { IsInferMade run.now.reading.path.now run.now.output.now run.now.reading.limits (store F.Files files.old files.new) (F.content files.old) (F.content files.new) result }
 {
-    let Ok(mut document) = source_of(files, path) else {
+    let reading = &run.reading;
+    let Ok(mut document) = source_of(files, reading.path) else {
         return Err(InferenceFault::Run(RunFault::Document(DocumentFault::Memory)));
     };
-    let Ok(mut written) = files.writer(output) else {
+    let Ok(mut written) = files.writer(run.output) else {
         return Err(InferenceFault::Run(RunFault::Document(DocumentFault::Memory)));
     };
-    let answer = infer_document(alloc, &mut document, &mut written, limits, state);
+    let answer = infer_document(
+        reading.means.alloc,
+        &mut document,
+        &mut written,
+        &reading.limits,
+        reading.means.state,
+    );
     files.close(written);
     answer
 }
 
-/// Prints the counts of the document at the path; or why nothing is written into the other file.
+/// Prints the counts of the document; or why nothing is written into the other file.
 fn tell_inferred<O: Sink, E: Sink>(
-    alloc: Global,
+    run: &InferRun<'_>,
     answer: Result<Summary, InferenceFault>,
-    path: &str,
-    output: &str,
-    limits: &Limits,
     out: &mut O,
     err: &mut E,
 ) -> u8
-    ensures { IsInferTold path.now output.now limits.now answer
+    ensures { IsInferTold run.now.reading.path.now run.now.output.now run.now.reading.limits answer
         (outputs O.Sink E.Sink out.old err.old) (outputs O.Sink E.Sink out.new err.new) result }
 {
+    let reading = &run.reading;
+    let alloc = reading.means.alloc;
     match answer {
         Ok(summary) => print_summary(out, &summary),
         Err(InferenceFault::Run(fault)) => tell(
             err,
-            question_message(alloc, &as_question_fault(fault), path, limits),
+            question_message(
+                alloc,
+                &as_question_fault(fault),
+                reading.path,
+                &reading.limits,
+            ),
         ),
-        Err(InferenceFault::Unwritten) => tell(err, unwritten_message(alloc, output)),
+        Err(InferenceFault::Unwritten) => tell(err, unwritten_message(alloc, run.output)),
     }
 }
 
-/// Writes what is inferred of the document at the path into the other file, and prints the counts.
+/// Writes what is inferred of the document into the other file, and prints the counts.
 pub(crate) fn perform_infer<F: Files, O: Sink, E: Sink>(
-    alloc: Global,
-    path: &str,
-    output: &str,
-    limits: &Limits,
+    run: &InferRun<'_>,
     files: &mut F,
     out: &mut O,
     err: &mut E,
-    state: RandomState,
 ) -> u8
-    ensures { Runs F.Files O.Sink E.Sink (Command.Infer path.entry output.entry) limits.now
+    ensures { Runs F.Files O.Sink E.Sink (Command.Infer run.now.reading.path run.now.output) run.now.reading.limits
         (files.old, out.old, err.old) (files.new, out.new, err.new) result }
 {
-    let answer = inferred_file(alloc, path, output, limits, files, state);
-    tell_inferred(alloc, answer, path, output, limits, out, err)
+    let answer = inferred_file(run, files);
+    tell_inferred(run, answer, out, err)
 }

@@ -31,8 +31,8 @@ pub use fault::{ClassifyFault, InferenceFault};
 pub use inferring::infer_document;
 pub use profile::{DocumentFault, Limits, Version, read_document};
 pub use receiving::{
-    CheckFault, Checked, ConversionFault, accepted_files_are_right, accepted_texts_are_right,
-    check_document, convert_certificate,
+    CheckFault, Checked, ConversionFault, Startup, accepted_files_are_right,
+    accepted_texts_are_right, check_document, convert_certificate,
 };
 pub use restricting::{Restriction, RestrictionFault, restrict_document, what_is_restricted};
 pub use run::perform;

@@ -1,7 +1,7 @@
 //! The program `elc`: classifies ontologies in functional-style syntax, and checks what was said of them.
 #![tactic(auto)]
 
-use cli::start;
+use cli::{Startup, start};
 use device::WriterSink;
 use std::hash::RandomState;
 use std::process::ExitCode;
@@ -13,10 +13,13 @@ fn words(rt: &HostRuntime) -> io::Result<Vec<String>> {
 }
 
 fn main(rt: HostRuntime) -> ExitCode {
+    let startup = Startup {
+        words: words(&rt),
+        state: RandomState::new(&rt),
+    };
     start(
         rt.alloc(),
-        words(&rt),
-        RandomState::new(&rt),
+        &startup,
         &mut SystemFiles::new(&rt, rt.stdin()),
         &mut WriterSink::new(rt.stdout()),
         &mut WriterSink::new(rt.stderr()),

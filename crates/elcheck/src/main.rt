@@ -2,7 +2,7 @@
 #![tactic(auto)]
 
 use device::WriterSink;
-use receiving::start;
+use receiving::{Startup, start};
 use std::hash::RandomState;
 use std::process::ExitCode;
 use std::{env, io};
@@ -13,10 +13,13 @@ fn words(rt: &HostRuntime) -> io::Result<Vec<String>> {
 }
 
 fn main(rt: HostRuntime) -> ExitCode {
+    let startup = Startup {
+        words: words(&rt),
+        state: RandomState::new(&rt),
+    };
     start(
         rt.alloc(),
-        words(&rt),
-        RandomState::new(&rt),
+        &startup,
         &mut SystemFiles::new(&rt, rt.stdin()),
         &mut WriterSink::new(rt.stdout()),
         &mut WriterSink::new(rt.stderr()),

@@ -14,10 +14,11 @@ use Rattle.receiving.proofs.Kept.{known_file, reads_file, refuses_file}
 use Rattle.receiving.proofs.ReadFiles.{IsOfFiles, read_blamed, read_there, unreadable}
 use Rattle.receiving.proofs.Spelled.{some, spelled}
 use Rattle.receiving.proofs.Stored.{IsLeftBy, IsSome, sink_begins, sink_holds}
+use Rattle.receiving.proofs.Written.{IsWritten}
 use Rattle.receiving.specs.Checks.{AreKnown, IsTextRead}
 use Rattle.receiving.specs.Conversions.{AreBothRead, Converts, IsConversionAnswer, IsUntaken, conversion_fault}
 use Rattle.receiving.specs.Files.{BlamesWrites, ConvertsFiles, IsSourceOf, NoWriteFails, Store}
-use Rattle.receiving.specs.HeldTexts.{AreOtherFilesKept, Holds, HoldsPrefix, Stays}
+use Rattle.receiving.specs.HeldTexts.{Holds, HoldsPrefix, Stays}
 use Rattle.receiving.specs.Runs.{IsConversionMade, IsConvertAnswer, format_of}
 use Rattle.receiving.specs.declared.fault.CheckFault.{CheckFault}
 use Rattle.receiving.specs.declared.fault.CheckFault.TheVariants as checking
@@ -144,12 +145,12 @@ converts_files {X} c limits s content before after old new (Err (Certificate (Ba
 converts_files {X} c limits s content before after old new (Err (Certificate (LaterPremise line))) document certificate of of' none counted is read beyond =
     ((read_there s.is_known _ before.0 after.0 document read.0, read_there s.is_known _ before.1 after.1 certificate read.1), fault_counted X s is.ontology (format_of c.format) old new is.text (LaterPremise line) none counted is.related)
 
-pub conversion_made : {X : Type 0} (c : Conversion) (limits : Limits) (s : Store) (content content' : Content) (format : Format) (before after : SourceState × SourceState) (old new : Device) (answer : Result X ConversionFault) → format ≡ format_of c.format → IsSourceOf s.is_known (content c.document.now) before.0 → IsSourceOf s.is_known (content c.certificate.now) before.1 → IsOfFiles s.reads_fail s.is_known after.0 → IsOfFiles s.reads_fail s.is_known after.1 → old.0 ≡ nothing_taken s.is_known → old.1 ≡ 0 → IsLeftBy (content c.output.now) (content' c.output.now) new.0 → IsCounted s.failed_before s.failed_behind new.1 → AreOtherFilesKept c.output.now content content' → IsConversionAnswer limits.version limits.max_bytes format before.0.left before.1.left (Takes old new) (FailsIn old new) (IsUntaken old new) answer → AreBothRead answer before after → (IsErrOf answer (Document reading.TooLarge) → after.0.most + limits.max_bytes < before.0.most) → IsConversionMade c limits s content content' answer
-conversion_made c limits s content content' format before after old new answer same document certificate of of' fresh none left counted others is read beyond =
+pub conversion_made : {X : Type 0} (c : Conversion) (limits : Limits) (s : Store) (content content' : Content) (format : Format) (before after : SourceState × SourceState) (old new : Device) (answer : Result X ConversionFault) → format ≡ format_of c.format → IsSourceOf s.is_known (content c.document.now) before.0 → IsSourceOf s.is_known (content c.certificate.now) before.1 → IsOfFiles s.reads_fail s.is_known after.0 → IsOfFiles s.reads_fail s.is_known after.1 → IsWritten s content content' c.output.now old new → IsConversionAnswer limits.version limits.max_bytes format before.0.left before.1.left (Takes old new) (FailsIn old new) (IsUntaken old new) answer → AreBothRead answer before after → (IsErrOf answer (Document reading.TooLarge) → after.0.most + limits.max_bytes < before.0.most) → IsConversionMade c limits s content content' answer
+conversion_made c limits s content content' format before after old new answer same document certificate of of' written is read beyond =
     let P : Format → Type 0 = λ f. IsConversionAnswer limits.version limits.max_bytes f before.0.left before.1.left (Takes old new) (FailsIn old new) (IsUntaken old new) answer in
     let there = subst P same is in
     record {
-      answered = convert_answer c limits s.is_known content content' before.0.left before.1.left old new answer document.left certificate.left fresh left there;
-      blames = converts_files c limits s content before after old new answer document certificate of of' none counted there read beyond;
-      others = others;
+      answered = convert_answer c limits s.is_known content content' before.0.left before.1.left old new answer document.left certificate.left written.fresh written.left there;
+      blames = converts_files c limits s content before after old new answer document certificate of of' written.working written.counted there read beyond;
+      others = written.others;
     }

@@ -5,9 +5,11 @@ pub mod ReadFiles
 pub mod CheckedFiles
 pub mod Counted
 pub mod Stored
+pub mod Written
 pub mod Spelled
 pub mod Converted
 pub mod NotDone
+pub mod Started
 pub mod OneTask
 pub mod ByLines
 pub mod Refusals

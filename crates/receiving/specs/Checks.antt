@@ -48,14 +48,6 @@ pub record IsCertificateJudged (o : Ontology) (taxonomy instances : List ℕ) (c
   pub certificate_is : AreKnown certificate certificate_text
   pub judged : IsVerdictWith o taxonomy instances certificate_text verdict
 
--- the verdict is on that ontology and the three texts
-pub record AreTextsJudged (o : Ontology) (taxonomy instances certificate : Option (List ℕ)) (verdict : Verdict) : Type 0 where
-  pub taxonomy_text : List ℕ
-  pub instances_text : List ℕ
-  pub taxonomy_is : AreKnown taxonomy taxonomy_text
-  pub instances_is : AreKnown instances instances_text
-  pub judged : IsCertificateJudged o taxonomy_text instances_text certificate verdict
-
 -- what a fault says of the document: it is refused, or it is read and this came behind that. The sources of the texts are
 -- numbered from 2
 abbrev pub IsCheckFault : Version → (most : ℕ) → (document : Option (List ℕ)) → CheckFault → Type 0
@@ -112,9 +104,14 @@ AreTextsRead (Ok verdict) old new =
     IsReadToItsEnd old.taxonomy new.taxonomy × IsReadToItsEnd old.instances new.instances × IsCertificateRead verdict old.certificate new.certificate
 AreTextsRead (Err fault) old new = AreTextsReadUntil fault old new
 
--- what was read of the sources of the three texts, by what they tell before and after a call
-abbrev pub ReadsTexts : {T I C : Type 0} → Ghosts T → Ghosts I → Ghosts C → (old new : T × I × C) → Result Verdict CheckFault → Type 0
-ReadsTexts T I C old new answer = AreTextsRead answer (text_states T I C old) (text_states T I C new)
+-- what was read of the sources of the first two texts: each to its end; or until this fault, which is that one of them failed or memory was
+-- refused
+abbrev pub AreTwoTextsRead : {X : Type 0} → Result X CheckFault → (old new : SourceState × SourceState) → Type 0
+AreTwoTextsRead (Ok x) old new = IsReadToItsEnd old.0 new.0 × IsReadToItsEnd old.1 new.1
+AreTwoTextsRead (Err Memory) old new = IsReadOn old.0 new.0 × IsReadOn old.1 new.1
+AreTwoTextsRead (Err (Io (suc (suc zero)))) old new = FailsInReading old.0 new.0 × (new.1 ≡ old.1)
+AreTwoTextsRead (Err (Io (suc (suc (suc zero))))) old new = IsReadToItsEnd old.0 new.0 × FailsInReading old.1 new.1
+AreTwoTextsRead (Err fault) old new = ⊥
 
 -- the sources of the document and of the three texts
 pub record Sources : Type 0 where

@@ -20,6 +20,8 @@ use Rattle.telling.specs.Printing.{BehindProgress, Output, IsAnswered, IsPrinted
 use Rattle.telling.specs.Messages.{cannot_write, out_of_memory, IsDocumentText, cannot_read}
 use Rattle.receiving.specs.Messages.{rejected_text, unconverted_text, verdict_text, verdict_status, IsCheckText, check_status}
 use Rattle.receiving.specs.HeldTexts.{AreOtherFilesKept, Holds, HoldsPrefix, Stays}
+use Rattle.receiving.specs.declared.asked.CheckRun.{CheckRun}
+use Rattle.receiving.specs.declared.asked.ConversionRun.{ConversionRun}
 use Rattle.receiving.specs.declared.checking.Checked.{Checked}
 use Rattle.receiving.specs.declared.fault.CheckFault.{CheckFault}
 use Rattle.program.specs.declared.limits.Limits.{Limits}
@@ -86,12 +88,12 @@ pub record IsConvertRun (c : Conversion) (limits : Limits) (s : Store) (content 
 -- ---- runs, by files and the two outputs before and after
 
 -- a run of `check` behind its progress
-abbrev pub RunsCheck : {F In Out O E : Type 0} → files.Ghosts F In Out → sinks.Ghosts O → sinks.Ghosts E → (told : Bool) → Paths → Limits → (old new : F × O × E) → (status : ℕ) → Type 0
-RunsCheck F O E told paths limits old new status =
-    BehindProgress told (outputs O E old.1 old.2)
-    (λ begun. IsCheckRun paths limits.version limits.max_bytes (store F old.0 new.0) (F.content old.0) begun (outputs O E new.1 new.2) status)
+abbrev pub RunsCheck : {F In Out O E : Type 0} → files.Ghosts F In Out → sinks.Ghosts O → sinks.Ghosts E → CheckRun → (old new : F × O × E) → (status : ℕ) → Type 0
+RunsCheck F O E run old new status =
+    BehindProgress run.progress (outputs O E old.1 old.2)
+    (λ begun. IsCheckRun run.paths run.limits.version run.limits.max_bytes (store F old.0 new.0) (F.content old.0) begun (outputs O E new.1 new.2) status)
 
 -- a run of `convert`
-abbrev pub RunsConversion : {F In Out O E : Type 0} → files.Ghosts F In Out → sinks.Ghosts O → sinks.Ghosts E → Conversion → Limits → (old new : F × O × E) → (status : ℕ) → Type 0
-RunsConversion F O E conversion limits old new status =
-    IsConvertRun conversion limits (store F old.0 new.0) (F.content old.0) (F.content new.0) (outputs O E old.1 old.2) (outputs O E new.1 new.2) status
+abbrev pub RunsConversion : {F In Out O E : Type 0} → files.Ghosts F In Out → sinks.Ghosts O → sinks.Ghosts E → ConversionRun → (old new : F × O × E) → (status : ℕ) → Type 0
+RunsConversion F O E run old new status =
+    IsConvertRun run.conversion run.limits (store F old.0 new.0) (F.content old.0) (F.content new.0) (outputs O E old.1 old.2) (outputs O E new.1 new.2) status

@@ -30,8 +30,17 @@ IsStarted E Run (Ok words) old new status =
     ⊎ ((new.0 ≡ old.0) × (new.1 ≡ old.1) × IsPrinted (seen E old.2) (seen E new.2) out_of_memory statuses.Memory status)
 IsStarted E Run (Err fault) old new status = (new.0 ≡ old.0) × (new.1 ≡ old.1) × IsUnreadTold (error_kind fault) (seen E old.2) (seen E new.2) status
 
+-- these words are those that a program was called with
+abbrev pub AreWordsOf : Result (Vec (String Global)) Error → List Text → Type 0
+AreWordsOf (Ok words) given = given ≡ map string_bytes words.items
+AreWordsOf (Err fault) given = ⊥
+
 -- there is a seed, and the program is started on the words; or there is none, which is told, and nothing else is done
 abbrev pub StartsSeeded : {F O E S : Type 0} → sinks.Ghosts E → RunBy F O E → (seed : Result S Error) → Result (Vec (String Global)) Error → (old new : F × O × E) → (status : ℕ) → Type 0
 StartsSeeded E Run (Ok seed) words old new status = IsStarted E Run words old new status
 StartsSeeded E Run (Err fault) words old new status =
     (new.0 ≡ old.0) × (new.1 ≡ old.1) × IsPrinted (seen E old.2) (seen E new.2) (codes "cannot read random seed\n") statuses.File status
+
+-- the program is started, and there is no run: there is no seed, there are no words, or no memory for their list, which is told
+abbrev pub IsUnstartedTold : {E S : Type 0} → sinks.Ghosts E → (seed : Result S Error) → Result (Vec (String Global)) Error → (old new : E) → (status : ℕ) → Type 0
+IsUnstartedTold E seed words old new status = StartsSeeded {F = Unit {0}} {O = Unit {0}} E (λ given before behind answered. ⊥) seed words (tt, tt, old) (tt, tt, new) status

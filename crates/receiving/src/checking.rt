@@ -1,7 +1,5 @@
 //! The check of a document's texts.
-ghost use Rattle.cert_check.specs.SourceVerdicts.{IsJudgedFrom};
-ghost use Rattle.certificate.specs.SourceReading.{StopsGoingOn};
-ghost use Rattle.receiving.specs.Checks.{AreKnown, AreTextsJudged, IsCheckAnswer, IsTextRead, IsUnjudged, Reads, ReadsTexts, StopsInCertificate};
+ghost use Rattle.receiving.specs.Checks.{AreKnown, AreTwoTextsRead, IsCertificateJudged, IsCertificateRead, IsCheckAnswer, IsTextRead, IsUnjudged, Reads, StopsInCertificate};
 ghost use Rattle.receiving.specs.declared.fault.CheckFault.TheVariants as faults;
 ghost use Rattle.profile.specs.declared.fault.DocumentFault.TheVariants as document_faults;
 ghost use Rattle.telling.specs.Devices.{seen};
@@ -9,6 +7,7 @@ ghost use Rattle.telling.specs.Progress.{IsProgress};
 ghost use Rattle.source_lines.specs.Sources.{source_state};
 ghost use Rattle.std.specs.Prelude.{◌+◌, ◌<◌, IfErr, IfOk, IsErrOf};
 
+use crate::asked::Means;
 use crate::fault::CheckFault;
 use crate::reading::read_telling;
 use axioms::Ontology;
@@ -42,42 +41,23 @@ pub(crate) fn bytes_of<S: Source>(
     }
 }
 
-/// The verdict on the two texts and that of the certificate's source, which is the fourth.
-fn judged<C: Source>(
-    alloc: Global,
-    ontology: &Ontology,
-    taxonomy: &[u8],
-    instances: &[u8],
-    certificate: &mut C,
-) -> Result<Verdict, CheckFault>
-    ensures judged { IfOk result (IsJudgedFrom ontology.now taxonomy.now instances.now
-        (source_state C.Source certificate.old) (source_state C.Source certificate.new)) }
-    ensures fault { IfErr result (IsUnjudged ontology.now (source_state C.Source certificate.old) (source_state C.Source certificate.new)) }
-{
-    match check_from(alloc, ontology, taxonomy, instances, certificate) {
-        Ok(verdict) => Ok(verdict),
-        Err(StreamFault::Io) => Err(CheckFault::Io(4)),
-        Err(StreamFault::Memory) => Err(CheckFault::Memory),
-    }
+/// The texts of a taxonomy and of instances.
+#[derive(Drop)]
+pub(crate) struct Texts {
+    pub taxonomy: Vec<u8>,
+    pub instances: Vec<u8>,
 }
 
-/// The verdict on the texts of the three sources, which are read in their order and are numbered from 2. Where progress is told, the
-/// sink is told what was read.
-fn texts_judged<T: Source, I: Source, C: Source, W: Sink>(
+/// The texts of the two sources, which are numbered from 2 and read in their order.
+fn texts_of<T: Source, I: Source>(
     alloc: Global,
-    ontology: &Ontology,
     taxonomy: &mut T,
     instances: &mut I,
-    certificate: &mut C,
-    told: bool,
-    sink: &mut W,
-) -> Result<Verdict, CheckFault>
-    ensures judged { IfOk result (AreTextsJudged ontology.now (T.left taxonomy.old) (I.left instances.old) (C.left certificate.old)) }
-    ensures stops { IsErrOf result (faults.Io 4) → StopsGoingOn ontology.now
-        (source_state C.Source certificate.old) (source_state C.Source certificate.new) }
-    ensures read { ReadsTexts T.Source I.Source C.Source
-        (taxonomy.old, instances.old, certificate.old) (taxonomy.new, instances.new, certificate.new) result }
-    ensures progress { IsProgress told (seen W.Sink sink.old) (seen W.Sink sink.new) }
+) -> Result<Texts, CheckFault>
+    ensures taxonomy { IfOk result (λ t. AreKnown (T.left taxonomy.old) t.taxonomy.items) }
+    ensures instances { IfOk result (λ t. AreKnown (I.left instances.old) t.instances.items) }
+    ensures read { AreTwoTextsRead result (source_state T.Source taxonomy.old, source_state I.Source instances.old)
+        (source_state T.Source taxonomy.new, source_state I.Source instances.new) }
 {
     let taxonomy = match bytes_of(alloc, taxonomy, 2) {
         Ok(taxonomy) => taxonomy,
@@ -87,12 +67,34 @@ fn texts_judged<T: Source, I: Source, C: Source, W: Sink>(
         Ok(instances) => instances,
         Err(fault) => return Err(fault),
     };
-    let read = Stage::TextsRead {
-        taxonomy: taxonomy.len(),
-        instances: instances.len(),
-    };
-    tell_stage(sink, told, &read);
-    judged(alloc, ontology, &taxonomy, &instances, certificate)
+    Ok(Texts {
+        taxonomy,
+        instances,
+    })
+}
+
+/// The verdict on the two texts and that of the certificate's source, which is the fourth.
+fn judged<C: Source>(
+    alloc: Global,
+    ontology: &Ontology,
+    texts: &Texts,
+    certificate: &mut C,
+) -> Result<Verdict, CheckFault>
+    ensures judged { IfOk result (IsCertificateJudged ontology.now texts.now.taxonomy.items texts.now.instances.items (C.left certificate.old)) }
+    ensures read { IfOk result (λ verdict. IsCertificateRead verdict (source_state C.Source certificate.old) (source_state C.Source certificate.new)) }
+    ensures fault { IfErr result (IsUnjudged ontology.now (source_state C.Source certificate.old) (source_state C.Source certificate.new)) }
+{
+    match check_from(
+        alloc,
+        ontology,
+        &texts.taxonomy,
+        &texts.instances,
+        certificate,
+    ) {
+        Ok(verdict) => Ok(verdict),
+        Err(StreamFault::Io) => Err(CheckFault::Io(4)),
+        Err(StreamFault::Memory) => Err(CheckFault::Memory),
+    }
 }
 
 /// Reads the document and the three texts, in this order up to the first fault, and answers whether the certificate
@@ -131,20 +133,22 @@ pub fn check_document<D: Source, T: Source, I: Source, C: Source, W: Sink>(
     // Where progress is told, the sink takes lines of stages; where it is not, nothing.
     ensures progress { IsProgress told (seen W.Sink sink.old) (seen W.Sink sink.new) }
 {
-    let ontology = match read_telling(alloc, document, limits, told, sink, state) {
+    let means = Means { alloc, state };
+    let ontology = match read_telling(means, document, limits, told, sink) {
         Ok(ontology) => ontology,
         Err(fault) => return Err(CheckFault::Document(fault)),
     };
     ontology.well_formed();
-    match texts_judged(
-        alloc,
-        &ontology,
-        taxonomy,
-        instances,
-        certificate,
-        told,
-        sink,
-    ) {
+    let texts = match texts_of(alloc, taxonomy, instances) {
+        Ok(texts) => texts,
+        Err(fault) => return Err(fault),
+    };
+    let read = Stage::TextsRead {
+        taxonomy: texts.taxonomy.len(),
+        instances: texts.instances.len(),
+    };
+    tell_stage(sink, told, &read);
+    match judged(alloc, &ontology, &texts, certificate) {
         Ok(verdict) => Ok(Checked { ontology, verdict }),
         Err(fault) => Err(fault),
     }

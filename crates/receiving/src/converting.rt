@@ -6,13 +6,13 @@ ghost use Rattle.receiving.specs.declared.fault.ConversionFault.TheVariants as f
 ghost use Rattle.profile.specs.declared.fault.DocumentFault.TheVariants as document_faults;
 ghost use Rattle.std.specs.Prelude.{◌≡◌, ◌+◌, ◌<◌, IsErrOf};
 
+use crate::asked::ConversionRun;
 use crate::checking::bytes_of;
 use crate::fault::{CheckFault, ConversionFault};
 use crate::formats::format_of;
 use crate::sources::both_sources;
 use certificate::Format;
 use certificate_text::{ConvertFault, convert};
-use command_line::Conversion;
 use device::{Sink, Source};
 use profile::{DocumentFault, Limits, read_document};
 use std::alloc::Global;
@@ -73,28 +73,25 @@ pub fn convert_certificate<D: Source, C: Source, S: Sink>(
 
 /// Reads the document and then the certificate, and writes the certificate into the third file, which may be one of the two.
 pub(crate) fn converted_file<F: Files>(
-    alloc: Global,
-    conversion: &Conversion<'_>,
-    limits: &Limits,
+    run: &ConversionRun<'_>,
     files: &mut F,
-    state: RandomState,
 ) -> Result<(), ConversionFault>
-    ensures { IsConversionMade conversion.now limits.now (store F.Files files.old files.new) (F.content files.old) (F.content files.new) result }
+    ensures { IsConversionMade run.now.conversion run.now.limits (store F.Files files.old files.new) (F.content files.old) (F.content files.new) result }
 {
-    let Ok(mut sources) = both_sources(files, conversion) else {
+    let Ok(mut sources) = both_sources(files, &run.conversion) else {
         return Err(ConversionFault::Document(DocumentFault::Memory));
     };
-    let Ok(mut converted) = files.writer(conversion.output) else {
+    let Ok(mut converted) = files.writer(run.conversion.output) else {
         return Err(ConversionFault::Document(DocumentFault::Memory));
     };
     let answer = convert_certificate(
-        alloc,
+        run.means.alloc,
         &mut sources.document,
         &mut sources.certificate,
         &mut converted,
-        limits,
-        format_of(conversion.format),
-        state,
+        &run.limits,
+        format_of(run.conversion.format),
+        run.means.state,
     );
     files.close(converted);
     answer

@@ -4,6 +4,7 @@
 
 ghost use Rattle.receiving.specs.Theorems.{AcceptedFilesAreRight, AcceptedTextsAreRight, ReceivedFilesAreRight, WordsOfElcheckCheck};
 
+mod asked;
 mod checking;
 mod converting;
 mod fault;
@@ -15,8 +16,10 @@ mod reading;
 mod receiver;
 mod run;
 mod sources;
+mod starting;
 mod words;
 
+pub use asked::{CheckRun, ConversionRun, Means, Reading};
 pub use axioms::Ontology;
 pub use cert_check::{Reason, Verdict};
 pub use certificate::Format;
@@ -33,8 +36,9 @@ pub use profile::{DocumentFault, Limits, Version};
 pub use receiver::{perform, start};
 pub use run::{perform_check, perform_convert};
 pub use sources::source_of;
+pub use starting::{Begun, Startup, begin};
 pub use system_files::Files;
-pub use words::{refuse, slices, tell_unread};
+pub use words::refuse;
 
 /// Where `check_document` accepts texts, whoever made them, the document reads as one ontology, whatever the version, and the
 /// taxonomy and the instances are those that its finite interpretations determine: each yes has a derivation from its axioms,

@@ -10,13 +10,13 @@ ghost use Rattle.std.specs.List.{flat_map};
 ghost use Rattle.profile.specs.declared.fault.DocumentFault.TheVariants as faults;
 ghost use Rattle.telling.specs.Devices.{IsReadIn, seen};
 
+use crate::asked::{Means, Reading};
 use crate::places::{first_place, place_at, place_in_trees, place_of};
 use crate::sources::source_of;
 use device::{ReadFault, Sink, Source, read_all};
 use profile::{DocumentFault, Limits, read_bytes};
 use shapes::Fault;
 use std::alloc::{AllocError, Global};
-use std::hash::RandomState;
 use system_files::Files;
 use telling::{Message, document_message, message_of, tell};
 
@@ -117,18 +117,13 @@ pub fn document_bytes<D: Source>(
 }
 
 /// All the bytes of the file at the path, which are at most as many as the limit.
-fn file_bytes<F: Files>(
-    alloc: Global,
-    path: &str,
-    limits: &Limits,
-    files: &F,
-) -> Result<Vec<u8>, DocumentFault>
-    ensures { IsFileRead limits.now.max_bytes F.reads_fail (F.is_known files.now) (F.content files.now path.now) result }
+fn file_bytes<F: Files>(reading: &Reading<'_>, files: &F) -> Result<Vec<u8>, DocumentFault>
+    ensures { IsFileRead reading.now.limits.max_bytes F.reads_fail (F.is_known files.now) (F.content files.now reading.now.path.now) result }
 {
-    let Ok(mut document) = source_of(files, path) else {
+    let Ok(mut document) = source_of(files, reading.path) else {
         return Err(DocumentFault::Memory);
     };
-    document_bytes(alloc, &mut document, limits)
+    document_bytes(reading.means.alloc, &mut document, &reading.limits)
 }
 
 /// Why a document does not read as an ontology, and its bytes, where they were all read.
@@ -150,24 +145,19 @@ fn unplaced(alloc: Global, fault: DocumentFault) -> Refusal
 }
 
 /// Reads the document at the path as an ontology, and gives back its bytes where it is one.
-fn read_again<F: Files>(
-    alloc: Global,
-    path: &str,
-    limits: &Limits,
-    files: &F,
-    state: RandomState,
-) -> Result<(), Refusal>
-    ensures { IsReadOrRefused limits.now.version limits.now.max_bytes F.reads_fail (F.is_known files.now) (F.content files.now path.now) result }
+fn read_again<F: Files>(reading: &Reading<'_>, files: &F) -> Result<(), Refusal>
+    ensures { IsReadOrRefused reading.now.limits.version reading.now.limits.max_bytes F.reads_fail (F.is_known files.now) (F.content files.now reading.now.path.now) result }
 {
-    let bytes = match file_bytes(alloc, path, limits, files) {
+    let Means { alloc, state } = reading.means;
+    let bytes = match file_bytes(reading, files) {
         Ok(bytes) => bytes,
         Err(fault) => return Err(unplaced(alloc, fault)),
     };
-    match read_bytes(alloc, &bytes, limits.version, state) {
+    match read_bytes(alloc, &bytes, reading.limits.version, state) {
         Ok(_) => {}
         Err(fault) => return Err(Refusal { fault, bytes }),
     }
-    match files.give_back(path, bytes) {
+    match files.give_back(reading.path, bytes) {
         Ok(()) => Ok(()),
         Err(_) => Err(unplaced(alloc, DocumentFault::Memory)),
     }
@@ -176,21 +166,24 @@ fn read_again<F: Files>(
 /// Reads the document at the path, which a run reads behind this again. Where it does not read as an ontology, `err` is told why, each fault
 /// with its line and its column in the bytes that were read, and the status is given.
 pub fn read_by_lines<F: Files, E: Sink>(
-    alloc: Global,
-    path: &str,
-    limits: &Limits,
+    reading: &Reading<'_>,
     files: &F,
     err: &mut E,
-    state: RandomState,
 ) -> Result<(), u8>
-    ensures read { OnOk result (IsReadable limits.now.version limits.now.max_bytes (F.content files.now path.now)) }
+    ensures read { OnOk result (IsReadable reading.now.limits.version reading.now.limits.max_bytes (F.content files.now reading.now.path.now)) }
     ensures quiet { OnOk result (err.new ≡ err.old) }
-    ensures told { IfErr result (IsLinedTold path.now limits.now.version limits.now.max_bytes F.reads_fail (F.is_known files.now) (F.content files.now path.now) (seen E.Sink err.old) (seen E.Sink err.new)) }
+    ensures told { IfErr result (IsLinedTold reading.now.path.now reading.now.limits.version reading.now.limits.max_bytes F.reads_fail (F.is_known files.now) (F.content files.now reading.now.path.now) (seen E.Sink err.old) (seen E.Sink err.new)) }
 {
-    match read_again(alloc, path, limits, files, state) {
+    match read_again(reading, files) {
         Ok(()) => Ok(()),
         Err(refusal) => {
-            let message = lined_message(alloc, &refusal.fault, &refusal.bytes, path, limits);
+            let message = lined_message(
+                reading.means.alloc,
+                &refusal.fault,
+                &refusal.bytes,
+                reading.path,
+                &reading.limits,
+            );
             Err(tell(err, message))
         }
     }

@@ -30,7 +30,7 @@ pub fn refuse<E: Sink>(alloc: Global, fault: &LineFault, err: &mut E) -> u8
 }
 
 /// The words as slices.
-pub fn slices<'a>(alloc: Global, words: &'a [String]) -> Result<Vec<&'a str>, AllocError>
+pub(crate) fn slices<'a>(alloc: Global, words: &'a [String]) -> Result<Vec<&'a str>, AllocError>
     ensures { IfOk result (λ s. map (λ w. w.now) s.items ≡ map string_bytes words.now) }
 {
     let mut slices = Vec::new(alloc);
@@ -41,7 +41,7 @@ pub fn slices<'a>(alloc: Global, words: &'a [String]) -> Result<Vec<&'a str>, Al
 }
 
 /// Tells why there are no words: memory was refused, or they are no text. Gives the status.
-pub fn tell_unread<E: Sink>(fault: &io::Error, err: &mut E) -> u8
+pub(crate) fn tell_unread<E: Sink>(fault: &io::Error, err: &mut E) -> u8
     ensures { IsUnreadTold (error_kind fault.now) (seen E.Sink err.old) (seen E.Sink err.new) result }
 {
     match fault.kind() {

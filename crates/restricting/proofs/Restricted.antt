@@ -8,6 +8,7 @@ use Rattle.receiving.proofs.Kept.{known_file}
 use Rattle.receiving.proofs.ReadFiles.{IsOfFiles, read_blamed, read_there}
 use Rattle.receiving.proofs.Spelled.{some}
 use Rattle.receiving.proofs.Stored.{IsLeftBy, IsSome, sink_begins, sink_holds, sink_stays}
+use Rattle.receiving.proofs.Written.{IsWritten}
 use Rattle.receiving.specs.Checks.{AreKnown}
 use Rattle.receiving.specs.Files.{IsSourceOf, NoWriteFails, Store}
 use Rattle.restricting.specs.Reports.{AreReported}
@@ -133,11 +134,11 @@ module _ (lines : Bool) (limits : Limits) where
   restricts_file s held before after old new (Err (Document fault bytes)) document of none counted is read beyond =
       (read_blamed s.reads_fail s.is_known held fault limits.max_bytes before after document of read beyond, counted.unfailed (ap (λ (d : Device). d.1) is.1 ∙ none))
 
-  pub restriction_made : (document output : List ℕ) (s : Store) (content content' : Content) (before after : SourceState) (old new : Device) (answer : Result Restriction RestrictionFault) → IsSourceOf s.is_known (content document) before → IsOfFiles s.reads_fail s.is_known after → old.0 ≡ nothing_taken s.is_known → old.1 ≡ 0 → IsLeftBy (content output) (content' output) new.0 → IsCounted s.failed_before s.failed_behind new.1 → AreOtherFilesKept output content content' → IsRestrictionAnswer lines limits.version limits.max_bytes before.left (Takes old new) (FailsIn old new) (new ≡ old) answer → IsRestrictionRead answer before after → IfErr answer (λ e. IsTooLarge e → after.most + limits.max_bytes < before.most) → IsRestrictionMade lines document output limits s content content' answer
-  restriction_made document output s content content' before after old new answer is_source of fresh none closed counted others is read beyond = record {
-    answered = restrict_answer document output s.is_known content content' before.left old new answer is_source.left fresh closed is;
-    blames = restricts_file s (content document) before after old new answer is_source of none counted is read beyond;
-    others = others;
+  pub restriction_made : (document output : List ℕ) (s : Store) (content content' : Content) (before after : SourceState) (old new : Device) (answer : Result Restriction RestrictionFault) → IsSourceOf s.is_known (content document) before → IsOfFiles s.reads_fail s.is_known after → IsWritten s content content' output old new → IsRestrictionAnswer lines limits.version limits.max_bytes before.left (Takes old new) (FailsIn old new) (new ≡ old) answer → IsRestrictionRead answer before after → IfErr answer (λ e. IsTooLarge e → after.most + limits.max_bytes < before.most) → IsRestrictionMade lines document output limits s content content' answer
+  restriction_made document output s content content' before after old new answer is_source of written is read beyond = record {
+    answered = restrict_answer document output s.is_known content content' before.left old new answer is_source.left written.fresh written.left is;
+    blames = restricts_file s (content document) before after old new answer is_source of written.working written.counted is read beyond;
+    others = written.others;
   }
 
   -- where memory was refused before the call

@@ -12,6 +12,7 @@ use Rattle.receiving.specs.Places.{IsLinedText}
 use Rattle.restricting.specs.Restrictions.{IsRestrictionAnswer}
 use Rattle.restricting.specs.declared.fault.RestrictionFault.{RestrictionFault}
 use Rattle.restricting.specs.declared.fault.RestrictionFault.TheVariants.{Document, Unwritten}
+use Rattle.restricting.specs.declared.run.RestrictRun.{RestrictRun}
 use Rattle.statements_text.specs.declared.restriction.Restriction.{Restriction}
 use Rattle.system_files.specs.Contents.{Content, IsThere}
 use Rattle.system_files.specs.declared.files.Files as files
@@ -60,6 +61,6 @@ pub record IsRestrictRun (lines : Bool) (document output : List ℕ) (limits : L
   pub told : IsRestrictTold lines document output limits.max_bytes answer old new status
 
 -- the same, by files and the two outputs before and after
-abbrev pub RunsRestrict : {F In Out O E : Type 0} → files.Ghosts F In Out → sinks.Ghosts O → sinks.Ghosts E → (lines : Bool) → (document output : List ℕ) → Limits → (old new : F × O × E) → (status : ℕ) → Type 0
-RunsRestrict F O E lines document output limits old new status =
-    IsRestrictRun lines document output limits (store F old.0 new.0) (F.content old.0) (F.content new.0) (outputs O E old.1 old.2) (outputs O E new.1 new.2) status
+abbrev pub RunsRestrict : {F In Out O E : Type 0} → files.Ghosts F In Out → sinks.Ghosts O → sinks.Ghosts E → RestrictRun → (old new : F × O × E) → (status : ℕ) → Type 0
+RunsRestrict F O E run old new status =
+    IsRestrictRun run.lines run.reading.path.now run.output.now run.reading.limits (store F old.0 new.0) (F.content old.0) (F.content new.0) (outputs O E old.1 old.2) (outputs O E new.1 new.2) status

@@ -11,9 +11,10 @@ mod run;
 
 pub use fault::RestrictionFault;
 pub use profile::{DocumentFault, Limits, Version};
+pub use receiving::{Means, Reading};
 pub use report::reported;
 pub use restricting::restrict_document;
-pub use run::perform_restrict;
+pub use run::{RestrictRun, perform_restrict};
 pub use statements_text::Restriction;
 pub use system_files::Files;
 

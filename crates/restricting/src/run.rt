@@ -8,14 +8,23 @@ ghost use Rattle.telling.specs.Printing.{outputs};
 use crate::fault::RestrictionFault;
 use crate::restricting::restrict_document;
 use device::Sink;
-use profile::{DocumentFault, Limits};
+use profile::DocumentFault;
 use program::Status;
-use receiving::{lined_message, source_of};
+use receiving::{Reading, lined_message, source_of};
 use statements_text::Restriction;
 use std::alloc::{AllocError, Global};
-use std::hash::RandomState;
 use system_files::Files;
 use telling::{Message, document_message, print, tell, unwritten_message};
+
+/// A restriction of a document to the profile, which is written into another file, or the same.
+#[derive(Clone, Copy)]
+pub struct RestrictRun<'a> {
+    pub reading: Reading<'a>,
+    /// The path of the file that is written.
+    pub output: &'a str,
+    /// Whether faults of the document are told with their lines and columns.
+    pub lines: bool,
+}
 
 /// That memory was refused before any of the document was read.
 fn unread(alloc: Global) -> RestrictionFault
@@ -27,87 +36,81 @@ fn unread(alloc: Global) -> RestrictionFault
     }
 }
 
-/// Reads the document at the path, and writes what of it is of the profile into the other file, which may be the same.
+/// Reads the document, and writes what of it is of the profile into the other file.
 fn restricted_file<F: Files>(
-    alloc: Global,
-    path: &str,
-    output: &str,
-    limits: &Limits,
-    lines: bool,
+    run: &RestrictRun<'_>,
     files: &mut F,
-    state: RandomState,
 ) -> Result<Restriction, RestrictionFault>
-    ensures { IsRestrictionMade lines path.now output.now limits.now (store F.Files files.old files.new) (F.content files.old) (F.content files.new) result }
+    ensures { IsRestrictionMade run.now.lines run.now.reading.path.now run.now.output.now run.now.reading.limits (store F.Files files.old files.new) (F.content files.old) (F.content files.new) result }
 {
-    let Ok(mut document) = source_of(files, path) else {
+    let reading = &run.reading;
+    let alloc = reading.means.alloc;
+    let Ok(mut document) = source_of(files, reading.path) else {
         return Err(unread(alloc));
     };
-    let Ok(mut written) = files.writer(output) else {
+    let Ok(mut written) = files.writer(run.output) else {
         return Err(unread(alloc));
     };
-    let answer = restrict_document(alloc, &mut document, &mut written, limits, lines, state);
+    let answer = restrict_document(
+        alloc,
+        &mut document,
+        &mut written,
+        &reading.limits,
+        run.lines,
+        reading.means.state,
+    );
     files.close(written);
     answer
 }
 
 /// What to tell of a document of these bytes that is not restricted.
 fn refusal_message(
-    alloc: Global,
+    run: &RestrictRun<'_>,
     fault: &DocumentFault,
     bytes: &[u8],
-    lines: bool,
-    path: &str,
-    limits: &Limits,
 ) -> Result<Message, AllocError>
-    ensures { IfOk result (λ m. IsTextBy lines path.now limits.now.max_bytes bytes.now fault.now (string_bytes m.text) × (m.status ≡ status_of fault.now)) }
+    ensures { IfOk result (λ m. IsTextBy run.now.lines run.now.reading.path.now run.now.reading.limits.max_bytes bytes.now fault.now (string_bytes m.text) × (m.status ≡ status_of fault.now)) }
 {
-    if lines {
-        lined_message(alloc, fault, bytes, path, limits)
+    let reading = &run.reading;
+    let alloc = reading.means.alloc;
+    if run.lines {
+        lined_message(alloc, fault, bytes, reading.path, &reading.limits)
     } else {
-        document_message(alloc, fault, path, limits)
+        document_message(alloc, fault, reading.path, &reading.limits)
     }
 }
 
-/// Prints what of the document at the path is not of the profile; or why nothing is written into the other file.
+/// Prints what of the document is not of the profile; or why nothing is written into the other file.
 fn tell_restricted<O: Sink, E: Sink>(
-    alloc: Global,
+    run: &RestrictRun<'_>,
     answer: Result<Restriction, RestrictionFault>,
-    path: &str,
-    output: &str,
-    limits: &Limits,
-    lines: bool,
     out: &mut O,
     err: &mut E,
 ) -> u8
-    ensures { IsRestrictTold lines path.now output.now limits.now.max_bytes answer
+    ensures { IsRestrictTold run.now.lines run.now.reading.path.now run.now.output.now run.now.reading.limits.max_bytes answer
         (outputs O.Sink E.Sink out.old err.old) (outputs O.Sink E.Sink out.new err.new) result }
 {
     match answer {
         Ok(restriction) => print(out, restriction.report.as_str(), Status::Done),
         Err(RestrictionFault::Document { fault, bytes }) => {
-            let message = refusal_message(alloc, &fault, &bytes, lines, path, limits);
-            tell(err, message)
+            tell(err, refusal_message(run, &fault, &bytes))
         }
-        Err(RestrictionFault::Unwritten) => tell(err, unwritten_message(alloc, output)),
+        Err(RestrictionFault::Unwritten) => {
+            tell(err, unwritten_message(run.reading.means.alloc, run.output))
+        }
     }
 }
 
-/// Writes what of the document at the path is of the profile into the other file, which may be the same, and prints what is not, each fault
-/// with its line and its column where lines are asked for. The status is given.
+/// Writes what of the document is of the profile into the other file, and prints what is not, each fault with its line and its column where
+/// lines are asked for. The status is given.
 pub fn perform_restrict<F: Files, O: Sink, E: Sink>(
-    alloc: Global,
-    path: &str,
-    output: &str,
-    limits: &Limits,
-    lines: bool,
+    run: &RestrictRun<'_>,
     files: &mut F,
     out: &mut O,
     err: &mut E,
-    state: RandomState,
 ) -> u8
-    ensures { RunsRestrict F.Files O.Sink E.Sink lines path.now output.now limits.now
-        (files.old, out.old, err.old) (files.new, out.new, err.new) result }
+    ensures { RunsRestrict F.Files O.Sink E.Sink run.now (files.old, out.old, err.old) (files.new, out.new, err.new) result }
 {
-    let answer = restricted_file(alloc, path, output, limits, lines, files, state);
-    tell_restricted(alloc, answer, path, output, limits, lines, out, err)
+    let answer = restricted_file(run, files);
+    tell_restricted(run, answer, out, err)
 }

@@ -4,7 +4,7 @@ use super::checking::{ONE_CERTIFICATE, put_all};
 use super::receivers::received;
 use super::*;
 use device::SliceSource;
-use receiving::{Limits, Version, document_bytes, read_by_lines};
+use receiving::{Limits, Means, Reading, Version, document_bytes, read_by_lines};
 
 /// What the row shows, the document, and what is told of it. Columns count bytes.
 const FAULTS: &[(&str, &[u8], &str)] = &[
@@ -172,7 +172,12 @@ fn read_before_a_run(rt: HostRuntime) -> Result<(), Fail> {
     let files = files_with(alloc, ONE_DOCUMENT)?;
     let mut err = BufferSink::new(alloc);
     let state = RandomState::new(&rt)?;
-    let read = read_by_lines(alloc, "doc", &LIMITS, &files, &mut err, state);
+    let reading = Reading {
+        means: Means { alloc, state },
+        path: "doc",
+        limits: LIMITS,
+    };
+    let read = read_by_lines(&reading, &files, &mut err);
     assert!(rt; read == Ok(()) && err.bytes().is_empty());
     let mut document = SliceSource::new(ONE_DOCUMENT);
     let bytes = document_bytes(alloc, &mut document, &LIMITS)?;

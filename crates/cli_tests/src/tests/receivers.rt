@@ -3,6 +3,7 @@
 use super::checking::{ONE_CERTIFICATE, put_all};
 use super::formats::changed_to_two;
 use super::*;
+use receiving::Means;
 
 /// A run of `elcheck`.
 pub(super) fn received<R: AllocGlobal + RandomSource, F: Files>(
@@ -14,7 +15,8 @@ pub(super) fn received<R: AllocGlobal + RandomSource, F: Files>(
     let state = RandomState::new(rt)?;
     let mut out = BufferSink::new(alloc);
     let mut err = BufferSink::new(alloc);
-    let status = receiving::perform(alloc, words, files, &mut out, &mut err, state);
+    let means = Means { alloc, state };
+    let status = receiving::perform(means, words, files, &mut out, &mut err);
     Ok(Run {
         status,
         out: out.into_bytes(),

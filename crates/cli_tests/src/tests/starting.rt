@@ -1,7 +1,8 @@
 //! Runs as the program starts them: with the words as they were read, and with the status that it ends with.
 
 use super::*;
-use cli::start;
+use cli::{Startup, start};
+use receiving::begin;
 use std::io;
 use std::process::ExitCode;
 
@@ -29,7 +30,8 @@ pub(super) fn started(
 ) -> Ended {
     let mut out = BufferSink::new(alloc);
     let mut err = BufferSink::new(alloc);
-    let status = start(alloc, words, state, files, &mut out, &mut err);
+    let startup = Startup { words, state };
+    let status = start(alloc, &startup, files, &mut out, &mut err);
     Ended {
         status,
         out: out.into_bytes(),
@@ -119,6 +121,22 @@ fn rejected_texts_end_with_one(rt: HostRuntime) -> Result<(), Fail> {
     let words = owned(alloc, CHECK)?;
     let end = started(alloc, Ok(words), RandomState::new(&rt), &mut files);
     assert!(rt; is_end(&end, 1, "rejected: C1 at byte 0\n", ""));
+    Ok(())
+}
+
+#[test]
+fn a_run_begins_with_the_words(rt: HostRuntime) -> Result<(), Fail> {
+    let alloc = rt.alloc();
+    let startup = Startup {
+        words: Ok(owned(alloc, CHECK)?),
+        state: RandomState::new(&rt),
+    };
+    let mut err = BufferSink::new(alloc);
+    match begin(alloc, &startup, &mut err) {
+        Ok(run) => assert!(rt; run.words.as_slice() == CHECK),
+        Err(status) => assert!(rt; false, "{status}"),
+    }
+    assert!(rt; err.bytes().is_empty());
     Ok(())
 }
 

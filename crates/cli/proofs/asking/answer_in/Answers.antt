@@ -15,8 +15,8 @@ returns-clause-blames g c =
       all_known = λ e. g.met.F.Files.all_known e c.args.files.now;
       unfailing = λ e. g.met.F.Files.unfailing e call.new.source;
     } in
-    asks_file files.reads_fail known (files.content c.args.files.now c.args.path.now) call.result c.args.limits.now.max_bytes (source_state source c.in-Ok.document) (source_state source call.new.source) c.in-Ok.ensures of call.ensures.read call.ensures.beyond
+    asks_file files.reads_fail known (files.content c.args.files.now c.args.run.now.reading.path.now) call.result c.args.run.now.reading.limits.max_bytes (source_state source c.in-Ok.document) (source_state source call.new.source) c.in-Ok.ensures of call.ensures.read call.ensures.beyond
 
 pub returns-clause-fault : goal.returns-clause-fault
 returns-clause-fault g c =
-    fault_in_file c.question_text.result (g.F.Files.content c.args.files.now c.args.path.now) (g.F.In.Source.left c.in-Ok.document) c.args.limits.now (names_in c.args.question) c.in-Ok.ensures.left c.question_text.ensures.fault
+    fault_in_file c.question_text.result (g.F.Files.content c.args.files.now c.args.run.now.reading.path.now) (g.F.In.Source.left c.in-Ok.document) c.args.run.now.reading.limits (names_in c.args.run.now.question) c.in-Ok.ensures.left c.question_text.ensures.fault

@@ -14,8 +14,8 @@ returns-clause-blames g c =
       all_known = λ e. g.met.F.Files.all_known e c.args.files.now;
       unfailing = λ e. g.met.F.Files.unfailing e call.new.source;
     } in
-    asks_file files.reads_fail known (files.content c.args.files.now c.args.path.now) call.result c.args.limits.now.max_bytes (source_state source c.in-Ok.document) (source_state source call.new.source) c.in-Ok.ensures of call.ensures.read call.ensures.beyond
+    asks_file files.reads_fail known (files.content c.args.files.now c.args.run.now.reading.path.now) call.result c.args.run.now.reading.limits.max_bytes (source_state source c.in-Ok.document) (source_state source call.new.source) c.in-Ok.ensures of call.ensures.read call.ensures.beyond
 
 pub returns-clause-answered : goal.returns-clause-answered
 returns-clause-answered g c =
-    query_in_file c.query_text.result (g.F.Files.content c.args.files.now c.args.path.now) (g.F.In.Source.left c.in-Ok.document) c.args.limits.now c.args.expression.now c.args.spelling c.in-Ok.ensures.left c.query_text.ensures.answered
+    query_in_file c.query_text.result (g.F.Files.content c.args.files.now c.args.run.now.reading.path.now) (g.F.In.Source.left c.in-Ok.document) c.args.run.now.reading.limits c.args.run.now.expression.now c.args.run.now.spelling c.in-Ok.ensures.left c.query_text.ensures.answered

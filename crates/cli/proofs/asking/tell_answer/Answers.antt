@@ -9,8 +9,8 @@ use Rattle.cli.proofs.asking.tell_answer.Goals as goal
 
 pub returns-in-Err : goal.returns-in-Err
 returns-in-Err g c =
-    let limits = c.args.limits.now in
-    let path = c.args.path.now in
+    let limits = c.args.reading.now.limits in
+    let path = c.args.reading.now.path.now in
     let fault = c.in-Err.fault in
     let old : Output = record { out = (g.O.Sink.taken c.args.out.now, g.O.Sink.failures c.args.out.now); err = (g.E.Sink.taken c.args.err.now, g.E.Sink.failures c.args.err.now) } in
     let new : Output = record { out = old.out; err = (g.E.Sink.taken c.tell.new.err, g.E.Sink.failures c.tell.new.err) } in

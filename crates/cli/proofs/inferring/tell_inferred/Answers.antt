@@ -10,9 +10,9 @@ use Rattle.cli.proofs.inferring.tell_inferred.Goals as goal
 
 pub returns-in-Err-Unwritten : goal.returns-in-Err-Unwritten
 returns-in-Err-Unwritten g c =
-    let path = c.args.path.now in
-    let output = c.args.output.now in
-    let limits = c.args.limits.now in
+    let path = c.args.run.now.reading.path.now in
+    let output = c.args.run.now.output.now in
+    let limits = c.args.run.now.reading.limits in
     let tell = c.tell-in-Err-Unwritten in
     let old : Output = record { out = (g.O.Sink.taken c.args.out.now, g.O.Sink.failures c.args.out.now); err = (g.E.Sink.taken c.args.err.now, g.E.Sink.failures c.args.err.now) } in
     let new : Output = record { out = old.out; err = (g.E.Sink.taken tell.new.err, g.E.Sink.failures tell.new.err) } in

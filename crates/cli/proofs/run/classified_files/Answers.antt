@@ -1,4 +1,5 @@
-use Rattle.std.proofs.Common.{◌∙◌, refl}
+use Rattle.std.proofs.Common.{◌∙◌, refl, subst}
+use Rattle.certificate.specs.declared.format.Format.{Format}
 use Rattle.cli.proofs.Blamed.{AreCounted, AreWorking, classifies_file}
 use Rattle.receiving.proofs.Kept.{refused_memory}
 use Rattle.cli.proofs.Left.{at_path, classify_answer}
@@ -7,6 +8,7 @@ use Rattle.receiving.proofs.Stored.{stays}
 use Rattle.receiving.proofs.ReadFiles.{IsOfFiles}
 use Rattle.source_lines.specs.Sources.{source_state}
 use Rattle.receiving.specs.Files.{Store}
+use Rattle.cli.specs.Runs.{IsClassifyMade}
 use Rattle.session.specs.WrittenTexts.{Sinks}
 use Rattle.cli.proofs.run.classified_files.Goals as goal
 
@@ -26,9 +28,9 @@ returns-in_default-sinks_of-clause-made g c =
 
 pub returns-clause-made : goal.returns-clause-made
 returns-clause-made g c =
-    let paths = c.args.paths.now in
-    let limits = c.args.limits.now in
-    let format = c.args.format in
+    let paths = c.args.run.now.paths in
+    let limits = c.args.run.now.limits in
+    let format = c.format_of.result in
     let files = g.F.Files in
     let known = files.is_known c.args.files.now in
     let content = files.content c.args.files.now in
@@ -71,9 +73,10 @@ returns-clause-made g c =
       all_known = λ e. g.met.F.Files.all_known e c.args.files.now;
       unfailing = λ e. g.met.F.Files.unfailing e after.source;
     } in
-    record {
+    let P : Format → Type 0 = λ f. IsClassifyMade paths f limits store content content' call.result in
+    subst P c.format_of.ensures (record {
       answered = classify_answer paths format limits known content content' (source.left before) old_sinks new_sinks call.result c.in-Ok.ensures.left are_new call.ensures.answered closed;
       blames = classifies_file store limits.version format limits.max_facts limits.max_bytes (content paths.document.now) (source.left before) call.result state state' old_sinks new_sinks c.in-Ok.ensures of
           are_working counted call.ensures.read call.ensures.beyond call.ensures.answered;
       others = others_kept paths _ _ _ content content' closed;
-    }
+    })

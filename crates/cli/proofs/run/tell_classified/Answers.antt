@@ -9,8 +9,8 @@ use Rattle.cli.proofs.run.tell_classified.Goals as goal
 
 pub returns-in-Err : goal.returns-in-Err
 returns-in-Err g c =
-    let limits = c.args.limits.now in
-    let paths = c.args.paths.now in
+    let limits = c.args.run.now.limits in
+    let paths = c.args.run.now.paths in
     let fault = c.in-Err.fault in
     let old : Output = record { out = (g.O.Sink.taken c.args.out.now, g.O.Sink.failures c.args.out.now); err = (g.E.Sink.taken c.args.err.now, g.E.Sink.failures c.args.err.now) } in
     let new : Output = record { out = old.out; err = (g.E.Sink.taken c.tell.new.err, g.E.Sink.failures c.tell.new.err) } in

@@ -16,10 +16,10 @@ returns-clause-blames g c =
       all_known = λ e. g.met.F.Files.all_known e c.args.files.now;
       unfailing = λ e. g.met.F.Files.unfailing e call.new.source;
     } in
-    opened_blamed Opened files.reads_fail known (files.content c.args.files.now c.args.path.now) c.args.limits.now.max_bytes (source_state source c.in-Ok.document) (source_state source call.new.source) call.result
+    opened_blamed Opened files.reads_fail known (files.content c.args.files.now c.args.reading.now.path.now) c.args.reading.now.limits.max_bytes (source_state source c.in-Ok.document) (source_state source call.new.source) call.result
     c.in-Ok.ensures of call.ensures.lost call.ensures.unfailed call.ensures.failed call.ensures.whole call.ensures.beyond
 
 pub returns-clause-opened : goal.returns-clause-opened
 returns-clause-opened g c = IfOk-weaker c.open.result _ _
-    (λ s opens. opens_file c.args.limits.now.version (g.F.Files.content c.args.files.now c.args.path.now) _ c.args.limits.now.max_bytes (as_read s) c.in-Ok.ensures.left opens)
+    (λ s opens. opens_file c.args.reading.now.limits.version (g.F.Files.content c.args.files.now c.args.reading.now.path.now) _ c.args.reading.now.limits.max_bytes (as_read s) c.in-Ok.ensures.left opens)
     c.open.ensures.opened

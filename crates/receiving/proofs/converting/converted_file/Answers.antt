@@ -1,11 +1,10 @@
-use Rattle.std.proofs.Common.{◌∙◌, ℕ, refl, subst}
-use Rattle.receiving.proofs.Counted.{IsCounted}
+use Rattle.std.proofs.Common.{◌∙◌, refl}
 use Rattle.receiving.proofs.Converted.{conversion_made}
 use Rattle.receiving.proofs.Kept.{refused_memory}
 use Rattle.receiving.proofs.ReadFiles.{IsOfFiles}
-use Rattle.receiving.proofs.Stored.{one_left, stays}
+use Rattle.receiving.proofs.Stored.{stays}
+use Rattle.receiving.proofs.Written.{written}
 use Rattle.receiving.specs.Files.{Store, store}
-use Rattle.device.specs.Device.{HasFailed}
 use Rattle.telling.specs.Devices.{Device, seen}
 use Rattle.source_lines.specs.Sources.{source_state}
 use Rattle.receiving.proofs.converting.converted_file.Goals as goal
@@ -15,7 +14,7 @@ returns-in_default g c = record { answered = (refused_memory _ _ _, stays (g.F.F
 
 pub returns-in_default-writer : goal.returns-in_default-writer
 returns-in_default-writer g c = record {
-  answered = (refused_memory _ _ _, stays (g.F.Files.is_known c.args.files.now) _ _ (c.writer.ensures.kept c.args.conversion.now.output.now));
+  answered = (refused_memory _ _ _, stays (g.F.Files.is_known c.args.files.now) _ _ (c.writer.ensures.kept c.args.run.now.conversion.output.now));
   blames = (tt, c.writer.ensures.unfailed);
   others = λ other no. c.writer.ensures.kept other;
 }
@@ -26,7 +25,7 @@ returns g c =
     let source = g.F.In.Source in
     let sink = g.F.Out.Sink in
     let call = c.convert_certificate-answer in
-    let conversion = c.args.conversion.now in
+    let conversion = c.args.run.now.conversion in
     let first = c.args.files.now in
     let made = c.writer.new.self in
     let last = c.close.new.self in
@@ -37,7 +36,6 @@ returns g c =
     let opened = c.in-Ok-writer.converted in
     let old : Device = seen sink opened in
     let new : Device = seen sink call.new.converted in
-    let path = call.ensures.path ∙ c.in-Ok-writer.ensures.path in
     let of : IsOfFiles files.reads_fail known (source_state source call.new.document) = record {
       all_known = λ e. g.met.F.Files.all_known e first;
       unfailing = λ e. g.met.F.Files.unfailing e call.new.document;
@@ -46,13 +44,9 @@ returns g c =
       all_known = λ e. g.met.F.Files.all_known e first;
       unfailing = λ e. g.met.F.Files.unfailing e call.new.certificate;
     } in
-    let P : ℕ → Type 0 = λ n. HasFailed n (files.failed_writes last) in
-    let counted : IsCounted (files.failed_writes first) (files.failed_writes last) (sink.failures call.new.converted) = record {
-      unfailed = λ e. c.close.ensures.unfailed e ∙ c.writer.ensures.unfailed;
-      failed = λ h. subst P c.writer.ensures.unfailed (c.close.ensures.failed h);
-    } in
-    conversion_made conversion c.args.limits.now s (files.content first) (files.content last) c.format_of.result
+    conversion_made conversion c.args.run.now.limits s (files.content first) (files.content last) c.format_of.result
     (source_state source before.document, source_state source before.certificate) (source_state source call.new.document, source_state source call.new.certificate) old new call.result c.format_of.ensures
-    is.document is.certificate of of' c.in-Ok-writer.ensures.taken c.in-Ok-writer.ensures.failures
-    (one_left (files.content first) (files.content made) (files.content last) (sink.path call.new.converted) conversion.output.now (sink.taken call.new.converted) c.writer.ensures.kept path c.close.ensures.closed)
-    counted (λ other no. c.close.ensures.closed.others other (λ e. no (e ∙ path)) ∙ c.writer.ensures.kept other) call.ensures.answered call.ensures.read call.ensures.beyond
+    is.document is.certificate of of'
+    (written s (files.content first) (files.content made) (files.content last) (files.failed_writes made) (sink.path call.new.converted) conversion.output.now old new
+    c.in-Ok-writer.ensures.taken c.in-Ok-writer.ensures.failures (call.ensures.path ∙ c.in-Ok-writer.ensures.path) c.writer.ensures.kept c.writer.ensures.unfailed c.close.ensures.closed c.close.ensures.unfailed c.close.ensures.failed)
+    call.ensures.answered call.ensures.read call.ensures.beyond

@@ -13,5 +13,5 @@ returns g c =
       all_known = λ e. g.met.F.Files.all_known e c.args.files.now;
       unfailing = λ e. g.met.F.Files.unfailing e call.new.document;
     } in
-    file_read c.args.limits.now.max_bytes files.reads_fail known (files.content c.args.files.now c.args.path.now) (source_state source c.in-Ok.document) (source_state source call.new.document) call.result
+    file_read c.args.reading.now.limits.max_bytes files.reads_fail known (files.content c.args.files.now c.args.reading.now.path.now) (source_state source c.in-Ok.document) (source_state source call.new.document) call.result
     c.in-Ok.ensures of call.ensures.known call.ensures.within call.ensures.unread call.ensures.beyond call.ensures.read

@@ -7,8 +7,8 @@ use Rattle.receiving.proofs.lines.read_by_lines.Goals as goal
 
 pub returns-in-Err-clause-told : goal.returns-in-Err-clause-told
 returns-in-Err-clause-told g c =
-    let path = c.args.path.now in
-    let most = c.args.limits.now.max_bytes in
+    let path = c.args.reading.now.path.now in
+    let most = c.args.reading.now.limits.max_bytes in
     let fault = c.in-Err.refusal.fault in
     let bytes = c.in-Err.refusal.bytes.items in
     let made = c.lined_message-message in

@@ -9,8 +9,8 @@ use Rattle.receiving.proofs.run.tell_converted.Goals as goal
 
 pub returns-in-Err-Unread : goal.returns-in-Err-Unread
 returns-in-Err-Unread g c =
-    let conversion = c.args.conversion.now in
-    let bytes = c.args.limits.now.max_bytes in
+    let conversion = c.args.run.now.conversion in
+    let bytes = c.args.run.now.limits.max_bytes in
     let tell = c.tell-in-Err-Unread in
     let old : Output = record { out = (g.O.Sink.taken c.args.out.now, g.O.Sink.failures c.args.out.now); err = (g.E.Sink.taken c.args.err.now, g.E.Sink.failures c.args.err.now) } in
     let new : Output = record { out = old.out; err = (g.E.Sink.taken tell.new.err, g.E.Sink.failures tell.new.err) } in

@@ -10,13 +10,13 @@ use Rattle.restricting.proofs.run.tell_restricted.Goals as goal
 
 pub returns-in-Err-Unwritten : goal.returns-in-Err-Unwritten
 returns-in-Err-Unwritten g c =
-    let path = c.args.path.now in
-    let output = c.args.output.now in
-    let bytes = c.args.limits.now.max_bytes in
+    let path = c.args.run.now.reading.path.now in
+    let output = c.args.run.now.output.now in
+    let bytes = c.args.run.now.reading.limits.max_bytes in
     let tell = c.tell-in-Err-Unwritten in
     let old : Output = record { out = (g.O.Sink.taken c.args.out.now, g.O.Sink.failures c.args.out.now); err = (g.E.Sink.taken c.args.err.now, g.E.Sink.failures c.args.err.now) } in
     let new : Output = record { out = old.out; err = (g.E.Sink.taken tell.new.err, g.E.Sink.failures tell.new.err) } in
-    let P : Result Restriction RestrictionFault → Type 0 = λ answer. IsRestrictTold c.args.lines path output bytes answer old new tell.result in
-    let Q : RestrictionFault → Type 0 = λ fault. IsRestrictTold c.args.lines path output bytes (Err fault) old new tell.result in
+    let P : Result Restriction RestrictionFault → Type 0 = λ answer. IsRestrictTold c.args.run.now.lines path output bytes answer old new tell.result in
+    let Q : RestrictionFault → Type 0 = λ fault. IsRestrictTold c.args.run.now.lines path output bytes (Err fault) old new tell.result in
     subst P (sym c.in-Err-Unwritten.is) (subst Q (sym c.in-Err-Unwritten.field-0-is)
     (refl, told old.err new.err c.unwritten_message.result (λ text. text ≡ cannot_write output) statuses.File tell.result c.unwritten_message.ensures tell.ensures))
