@@ -1,4 +1,7 @@
 //! Paths worked out by hand.
+ghost use Rattle.normal_forms.specs.Properties.{IsPropertyFormOf};
+ghost use Rattle.std.specs.List.{All};
+ghost use Rattle.std.specs.Prelude.{◌^◌, IfOk};
 
 use axioms::{Memory, PropId};
 use explain::PropertyPaths;
@@ -25,10 +28,21 @@ const FORMS: &[Form] = &[
     Form::N5(S, T),
 ];
 
-fn problem(alloc: Global) -> Result<IndexedProblem, Memory> {
-    let forms = FormList::of(alloc, FORMS)?;
+/// The forms, of four properties.
+fn forms(alloc: Global) -> Result<FormList, Memory>
+    ensures { IfOk result (λ forms. All (IsPropertyFormOf 4 (2 ^ 32)) forms) }
+{
+    Ok(FormList::of(alloc, FORMS)?)
+}
+
+/// The same, found by their properties.
+fn problem(alloc: Global) -> Result<IndexedProblem, Memory>
+    ensures { IfOk result (λ problem. All (IsPropertyFormOf 4 (2 ^ 32)) problem.forms) }
+{
+    let forms = forms(alloc)?;
     let apart = ApartLists::new(alloc);
-    Ok(IndexedProblem::new(alloc, forms, apart, Vec::new(alloc))?)
+    let problem = IndexedProblem::new(alloc, forms, apart, Vec::new(alloc))?;
+    Ok(problem)
 }
 
 /// Two properties, and the forms that lead from the first to the second.
