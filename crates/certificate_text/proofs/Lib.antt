@@ -5,3 +5,4 @@ pub mod Individuals
 pub mod Seen
 pub mod LineTexts
 pub mod Conversions
+pub mod Decimals

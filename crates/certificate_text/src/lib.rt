@@ -2,6 +2,7 @@
 #![tactic(auto)]
 
 mod conversion;
+mod digits;
 mod fault;
 mod line_text;
 mod listed_text;

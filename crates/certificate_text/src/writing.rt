@@ -11,6 +11,7 @@ ghost use Rattle.certificate_text.specs.LaterPremises.{IsFirstLater, IsLater};
 ghost use Rattle.certificate.specs.Text as text;
 ghost use Rattle.certificate.specs.View.{subject_of, conclusion_of, line_of, lines_of, class_row_of, pair_row_of, claim_of, listed_of};
 
+use crate::digits::push_digits;
 use crate::fault::CertWriteFault;
 use crate::run::push_runs;
 use axioms::{Memory, Ontology};
@@ -18,16 +19,7 @@ use certificate::{
     Certificate, Claim, ClassRow, Conclusion, Format, Line, Listed, PairRow, Subject,
 };
 use device::{Sink, write_all};
-use itoa::Buffer;
 use std::alloc::{AllocError, Global};
-
-// The digits of the number.
-fn push_digits(out: &mut Vec<u8>, number: u64) -> Result<(), AllocError>
-    ensures { OnOk result (out.new.items ≡ out.old.items ++ decimal number) }
-{
-    let mut buffer = Buffer::new();
-    out.extend_from_slice(buffer.format(number).as_bytes())
-}
 
 /// The word and then the number.
 #[inline(always)]
