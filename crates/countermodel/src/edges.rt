@@ -68,6 +68,7 @@ fn add_above(
 }
 
 /// Adds the pairs that the fact gives, of those in the range. A prefix of a chain gives none, since no property is above it.
+#[inline(always)]
 pub(crate) fn add_fact(
     keys: &mut OpenLists<u64>,
     range: &PairRange,
