@@ -183,11 +183,11 @@ left_no_chain e (And ds) p q rs (n, (d, _, _, i)) = let f : N6 p q (Steps rs) �
 left_no_chain e (Exists r c) p q rs i = let f : N6 p q (Steps rs) ≡ N4 r (Whole c) (Whole e) = i in cc
 
 -- expressions name no chain
-pub expressions_name_none : (s t : Made) (nodes : List Node) (right left : List Bool) (k : ℕ) → Adds s t (ExpressedTo nodes right left k) → t.steps ≡ s.steps
-expressions_name_none s t nodes right left k adds = steps_stay s t (ExpressedTo nodes right left k) adds none
+pub expressions_name_none : (s t : Made) (nodes : List Node) (R L : ℕ → Type 0) (numbers : List ℕ) (k : ℕ) → Adds s t (ExpressedTo nodes R L numbers k) → t.steps ≡ s.steps
+expressions_name_none s t nodes R L numbers k adds = steps_stay s t (ExpressedTo nodes R L numbers k) adds none
   where
-    none : (rs : List ℕ) → HasProperty (ExpressedTo nodes right left k) rs → ⊥
-    none rs (o, p, q, (n, _, _, (node, _, _, h))) = elim h [ inl x ↦ right_no_chain n node p q rs x.1 | inr y ↦ left_no_chain n node p q rs y.1 ]
+    none : (rs : List ℕ) → HasProperty (ExpressedTo nodes R L numbers k) rs → ⊥
+    none rs (o, p, q, (_, _, _, (n, _, (node, _, _, h)))) = elim h [ inl x ↦ right_no_chain n node p q rs x.1 | inr y ↦ left_no_chain n node p q rs y.1 ]
 
 -- ---- axiom by axiom
 

@@ -1,6 +1,6 @@
 -- What single steps of the code give.
-use Rattle.std.proofs.Common.{◌≡◌, ℕ, zero, suc, ◌+◌, ◌-◌, ◌<◌, ◌≤◌, ◌⊎◌, inl, inr, Bool, true, List, [], ◌∷◌, ◌++◌, length, take, map, slice_get, Some, refl, sym, ap, ◌∙◌, subst, arith, add-one}
-use Rattle.std.specs.Prelude.{slice_index}
+use Rattle.std.proofs.Common.{◌≡◌, ℕ, zero, suc, ◌+◌, ◌-◌, ◌<◌, ◌≤◌, ◌⊎◌, inl, inr, Bool, true, List, [], ◌∷◌, ◌++◌, length, take, map, slice_get, Some, None, refl, sym, ap, ◌∙◌, subst, arith, add-one}
+use Rattle.std.specs.Prelude.{◌↔◌, slice_index}
 use Rattle.std.proofs.lemmas.Bool.Decides.{nat_tests}
 use Rattle.std.proofs.lemmas.Bool.{cases_eq}
 use Rattle.std.proofs.lemmas.Option.{none-some, same_Some, slice_get_within}
@@ -24,7 +24,7 @@ use Rattle.normal_forms.specs.Forms.{Class2, Property2, Form, Whole, Prefix, Pro
 use Rattle.normal_forms.specs.Origins.{AndGives, AxiomGives, ChainGives, CircleGives, LeftGives, NextGives, PairGives, RightGives, disjoint, subsumed}
 use Rattle.normalise.specs.declared.made.Made.{Made}
 use Rattle.normalise.specs.View.{Lists, SaysClass, SaysProperty, Says, StartsClass, StartsProperty, class_number, property_number, Keeps, HasClass, HasProperty, Adds, IsOne, From}
-use Rattle.normalise.specs.Steps.{BelowOperand, ChainStep, ExpressedAt, MoreOperands, MoreSteps, Names, OperandStep, SideGives, StatedAt, Within}
+use Rattle.normalise.specs.Steps.{BelowOperand, ChainStep, ExpressedAt, ExpressedBy, MoreOperands, MoreSteps, Names, OperandStep, SideGives, StatedAt, Within}
 use Rattle.normalise.proofs.Adding.{lengthens_same, lengthens_numbered, numbered_there, says_class_more, says_property_more, adds_behind_names, adds_none, adds_same, adds_both, from_same}
 
 -- a step that gives one form
@@ -341,8 +341,8 @@ within_more F from k le one a b = adds_same _ (Within F from (k + 1)) to back (a
 pub stated_once : (axioms : List Axiom) (m n : ℕ) (o : Origin) (g : Form) → StatedAt axioms m o g → StatedAt axioms n o g → m ≡ n
 stated_once axioms m n o g (a, _, e, _) (b, _, f, _) = let h : origins.Axiom (m + 1) ≡ origins.Axiom (n + 1) = sym e ∙ f in let i : m + 1 ≡ n + 1 = cc in omega arith
 
-pub expressed_once : (nodes : List Node) (right left : List Bool) (m n : ℕ) (o : Origin) (g : Form) → ExpressedAt nodes right left m o g → ExpressedAt nodes right left n o g → m ≡ n
-expressed_once nodes right left m n o g (a, _, e, _) (b, _, f, _) = ap number (sym e ∙ f)
+pub expressed_once : (nodes : List Node) (R L : ℕ → Type 0) (numbers : List ℕ) → AreDistinct numbers → (m n : ℕ) (o : Origin) (g : Form) → ExpressedBy nodes R L numbers m o g → ExpressedBy nodes R L numbers n o g → m ≡ n
+expressed_once nodes R L numbers one m n o g (x, gx, (a, _, e, _)) (y, gy, (b, _, f, _)) = one m n x gx (gy ∙ ap Some (ap number (sym f ∙ e)))
   where
     number : Origin → ℕ
     number (origins.Expr x) = x.0
@@ -360,17 +360,26 @@ sides_apart e (Exists r c) g h i = let f : N3 (Whole e) r c ≡ N4 r (Whole c) (
 pub sides_both : {s t u : Made} (node : Node) (whole : ExprId) (right left : Bool) → Adds s t (From (origins.Expr whole) (λ g. (right ≡ true) × RightGives whole.0 node g)) → Adds t u (From (origins.Expr whole) (λ g. (left ≡ true) × LeftGives whole.0 node g)) → Adds s u (SideGives node whole right left)
 sides_both node whole right left a b = adds_same _ (SideGives node whole right left) (λ o g h. elim h [ inl x ↦ (x.0, inl x.1) | inr y ↦ (y.0, inr y.1) ]) (λ o g h. elim h.1 [ inl x ↦ inl (h.0, x) | inr y ↦ inr (h.0, y) ]) (adds_both _ _ (λ o g h i. sides_apart whole.0 node g h.1.1 i.1.1) a b)
 
-pub expressed : {s t : Made} (nodes : List Node) (right left : List Bool) (k : ℕ) (node : Node) (r l : Bool) → slice_get nodes k ≡ Some node → slice_get right k ≡ Some r → slice_get left k ≡ Some l → Adds s t (SideGives node (record { 0 = k }) r l) → Adds s t (ExpressedAt nodes right left k)
-expressed nodes right left k node r l gn gr gl = adds_same (SideGives node (record { 0 = k }) r l) (ExpressedAt nodes right left k) to from
+pub expressed : {s t : Made} (nodes : List Node) (R L : ℕ → Type 0) (k : ℕ) (node : Node) (r l : Bool) → slice_get nodes k ≡ Some node → (r ≡ true) ↔ R k → (l ≡ true) ↔ L k → Adds s t (SideGives node (record { 0 = k }) r l) → Adds s t (ExpressedAt nodes R L k)
+expressed nodes R L k node r l gn er el = adds_same (SideGives node (record { 0 = k }) r l) (ExpressedAt nodes R L k) to from
   where
-    to : (o : Origin) (g : Form) → SideGives node (record { 0 = k }) r l o g → ExpressedAt nodes right left k o g
-    to o g (e, h) = (node, gn, e, elim h [ inl x ↦ inl (gr ∙ ap Some x.0, x.1) | inr y ↦ inr (gl ∙ ap Some y.0, y.1) ])
+    to : (o : Origin) (g : Form) → SideGives node (record { 0 = k }) r l o g → ExpressedAt nodes R L k o g
+    to o g (e, h) = (node, gn, e, elim h [ inl x ↦ inl (er.0 x.0, x.1) | inr y ↦ inr (el.0 y.0, y.1) ])
 
-    from : (o : Origin) (g : Form) → ExpressedAt nodes right left k o g → SideGives node (record { 0 = k }) r l o g
+    from : (o : Origin) (g : Form) → ExpressedAt nodes R L k o g → SideGives node (record { 0 = k }) r l o g
     from o g (m, gm, e, h) =
         let same : m ≡ node = one_value _ m node gm gn in
-        let R : Node → Type 0 = λ z. RightGives k z g in let L : Node → Type 0 = λ z. LeftGives k z g in
-        (e, elim h [ inl x ↦ inl (one_value _ r true gr x.0, subst R same x.1) | inr y ↦ inr (one_value _ l true gl y.0, subst L same y.1) ])
+        let P : Node → Type 0 = λ z. RightGives k z g in let Q : Node → Type 0 = λ z. LeftGives k z g in
+        (e, elim h [ inl x ↦ inl (er.1 x.0, subst P same x.1) | inr y ↦ inr (el.1 y.0, subst Q same y.1) ])
+
+-- no expression has that number
+pub expressed_none : (s : Made) (nodes : List Node) (R L : ℕ → Type 0) (k : ℕ) → slice_get nodes k ≡ None → Adds s s (ExpressedAt nodes R L k)
+expressed_none s nodes R L k none = adds_none s (ExpressedAt nodes R L k) (λ o g h. none-some h.0 (sym none ∙ h.1))
+
+-- the expression whose number stands at that place
+pub expressed_by : {s t : Made} (nodes : List Node) (R L : ℕ → Type 0) (numbers : List ℕ) (place n : ℕ) → slice_get numbers place ≡ Some n → Adds s t (ExpressedAt nodes R L n) → Adds s t (ExpressedBy nodes R L numbers place)
+expressed_by nodes R L numbers place n at = adds_same (ExpressedAt nodes R L n) (ExpressedBy nodes R L numbers place) (λ o g h. (n, at, h))
+    (λ o g h. (let P : ℕ → Type 0 = λ k. ExpressedAt nodes R L k o g in subst P (one_value _ h.0 n h.1 at) h.2))
 
 pub take_first : (ds : List ℕ) (d : ℕ) → slice_get ds 0 ≡ Some d → take 1 ds ≡ d ∷ []
 take_first [] d g = absurd (none-some d g)

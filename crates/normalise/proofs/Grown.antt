@@ -20,7 +20,7 @@ use Rattle.normal_forms.proofs.Sources.{forms_given, given_forms}
 use Rattle.normalise.specs.declared.entries.Entry.{Entry}
 use Rattle.normalise.specs.declared.made.Made.{Made}
 use Rattle.normalise.specs.Apart.{Apartness, AreNumbered, different_individuals, disjoint_classes, joined_apartness, no_apartness}
-use Rattle.normalise.specs.Growth.{Grown, Grows, Has, IsHeld, IsHeldAt, IsNormalFor, FreshTo, made_of}
+use Rattle.normalise.specs.Growth.{Grown, Grows, Has, IsFreshAt, IsHeld, IsHeldAt, IsNormalFor, MakesMore, made_of}
 use Rattle.normalise.specs.Listing.{Listing}
 use Rattle.normalise.specs.Marks.{IsMarked, MarksOccurring}
 use Rattle.normalise.specs.Steps.{ExpressedTo, StatedFrom}
@@ -28,17 +28,13 @@ use Rattle.normalise.specs.View.{Adds, Keeps, Lengthens, IsBehind, Place, AtEntr
 use Rattle.normalise.proofs.Adding.{adds_behind, adds_both, adds_same, at_one, at_within, before, behind_nothing}
 use Rattle.normalise.proofs.FreshNames.{begins_given, chains_given, expressions_name_none, given_begins, kept_front}
 use Rattle.normalise.proofs.Giving.{sides_apart}
+use Rattle.normalise.proofs.Occurrences.{kept_back, more_occurs}
 use Rattle.normalise.specs.FreshNames.{NameChains}
 
-number_at : (xs : List Axiom) (n : ℕ) → at_number xs (n + 1) ≡ slice_get xs n
+pub number_at : (xs : List Axiom) (n : ℕ) → at_number xs (n + 1) ≡ slice_get xs n
 number_at xs n = rw add-one refl
 
 -- ---- what is given stays given
-
-more_occurs : (At : Axiom → ℕ → Type 0) (o p : Ontology) (before asked : List ℕ) → Keeps o.nodes p.nodes → Keeps o.axioms p.axioms → ((e : ℕ) → Contains before e → Contains asked e) → (e : ℕ) → Occurs At o before e → Occurs At p asked e
-more_occurs At o p before asked nodes axioms more e (itself (inl (a, c, at))) = let q = slice_get-from_Contains o.axioms a c in itself (inl (a, Contains-from_slice_get p.axioms q.0 a (axioms q.0 a q.1), at))
-more_occurs At o p before asked nodes axioms more e (itself (inr c)) = itself (inr (more e c))
-more_occurs At o p before asked nodes axioms more e (part d node r g h) = part d node (more_occurs At o p before asked nodes axioms more d r) (nodes d node g) h
 
 more_given : (o p : Ontology) (before asked : List ℕ) (from : ℕ) → Grows o p from → ((e : ℕ) → Contains before e → Contains asked e) → (by : Origin) (g : Form) → GivenBy o before by g → GivenBy p asked by g
 more_given o p before asked from w more (origins.Axiom zero) g (a, at, h) = absurd (none-some a at)
@@ -60,56 +56,49 @@ cases_marked (true ∷ marks) zero = inl refl
 cases_marked (false ∷ marks) zero = inr (λ h. cc)
 cases_marked (b ∷ marks) (suc e) = cases_marked marks e
 
--- an element of the longer list, at a place of the shorter one
-kept_back : {X : Type 0} (xs ys : List X) → Keeps xs ys → (n : ℕ) (x : X) → n < length xs → slice_get ys n ≡ Some x → slice_get xs n ≡ Some x
-kept_back xs ys keeps n x l g = let q = slice_get_there xs n l in q.1 ∙ ap Some (one_value _ q.0 x (keeps n q.0 q.1) g)
-
 -- an axiom is no expression
-stated_apart : (axioms : List Axiom) (nodes : List Node) (right left : List Bool) (from m k : ℕ) (by : Origin) (g : Form) → StatedFrom axioms from m by g → ExpressedTo nodes right left k by g → ⊥
-stated_apart axioms nodes right left from m k by g (n, _, _, (_, _, e, _)) (l, _, _, (_, _, f, _)) = let h : origins.Axiom (n + 1) ≡ origins.Expr (record { 0 = l }) = sym e ∙ f in absurd cc
+pub stated_apart : (axioms : List Axiom) (nodes : List Node) (R L : ℕ → Type 0) (numbers : List ℕ) (from m k : ℕ) (by : Origin) (g : Form) → StatedFrom axioms from m by g → ExpressedTo nodes R L numbers k by g → ⊥
+stated_apart axioms nodes R L numbers from m k by g (n, _, _, (_, _, e, _)) (_, _, _, (l, _, (_, _, f, _))) = let h : origins.Axiom (n + 1) ≡ origins.Expr (record { 0 = l }) = sym e ∙ f in absurd cc
 
 no_forms : Made
 no_forms = record { entries = []; apart = no_apartness; operands = []; steps = [] }
 
 module _ (o p : Ontology) (before asked : List ℕ) (from : ℕ) (w : Grows o p from) (more : (e : ℕ) → Contains before e → Contains asked e)
-    (r r' l l' fr fl : List Bool) (R : MarksOccurring AtRight o before r) (R' : MarksOccurring AtRight p asked r') (L : MarksOccurring AtLeft o before l) (L' : MarksOccurring AtLeft p asked l')
-    (FR : FreshTo r' r fr (length r')) (FL : FreshTo l' l fl (length l')) (m : ℕ) (em : m ≡ length p.axioms) where
+    (r r' l l' : List Bool) (R : MarksOccurring AtRight o before r) (R' : MarksOccurring AtRight p asked r') (L : MarksOccurring AtLeft o before l) (L' : MarksOccurring AtLeft p asked l')
+    (numbers : List ℕ) (noted : (e : ℕ) → IsFreshAt r' r e ⊎ IsFreshAt l' l e → Contains numbers e) where
   New : Origin → Form → Type 0
-  New by g = StatedFrom p.axioms from m by g ⊎ ExpressedTo p.nodes fr fl (length fr) by g
+  New by g = StatedFrom p.axioms from (length p.axioms) by g ⊎ ExpressedTo p.nodes (IsFreshAt r' r) (IsFreshAt l' l) numbers (length numbers) by g
 
   new_given : (by : Origin) (g : Form) → New by g → GivenBy p asked by g
   unfolding New
   new_given by g (inl (n, a, b, (x, at, e, h))) = let P : Origin → Type 0 = λ y. GivenBy p asked y g in subst P (sym e) (x, number_at p.axioms n ∙ at, h)
-  new_given by g (inr (n, a, b, (node, at, e, h))) =
+  new_given by g (inr (_, _, _, (n, _, (node, at, e, h)))) =
       let P : Origin → Type 0 = λ x. GivenBy p asked x g in let there : n < length p.nodes = slice_get_within p.nodes n node at in
-      subst P (sym e) (
-        node,
-        at,
-        elim h [
-          | inl x ↦ inl ((R'.1 n there).0 ((FR.1 n (omega (arith, R'.0))).0 x.0).0, x.1)
-          | inr y ↦ inr ((L'.1 n there).0 ((FL.1 n (omega (arith, L'.0))).0 y.0).0, y.1)
-        ],
-      )
+      subst P (sym e) (node, at, elim h [ inl x ↦ inl ((R'.1 n there).0 x.0.0, x.1) | inr y ↦ inr ((L'.1 n there).0 y.0.0, y.1) ])
+
+  -- the expression of a number that is noted
+  expressed : (n : ℕ) (g : Form) (node : Node) → slice_get p.nodes n ≡ Some node → Contains numbers n → (IsFreshAt r' r n × RightGives n node g) ⊎ (IsFreshAt l' l n × LeftGives n node g) → New (origins.Expr (record { 0 = n })) g
+  unfolding New
+  expressed n g node at c h = let q = slice_get-from_Contains numbers n c in inr (q.0, omega arith, slice_get_within numbers q.0 n q.1, (n, q.1, (node, at, refl, h)))
 
   old_or_new : (by : Origin) (g : Form) → GivenBy p asked by g → GivenBy o before by g ⊎ New by g
   unfolding New
   old_or_new (origins.Axiom zero) g (a, at, h) = absurd (none-some a at)
   old_or_new (origins.Axiom (suc n)) g (a, at, h) = elim (cases_order n from) [
-    | inl e ↦ inr (inl (n, omega arith, omega (arith, slice_get_within p.axioms n a at), (a, at, ap origins.Axiom (sym (add-one n)), h)))
-    | inr (inl lt) ↦ inl (a, kept_back o.axioms p.axioms w.axioms n a (omega (arith, w.new_from)) at, h)
-    | inr (inr gt) ↦ inr (inl (n, omega arith, omega (arith, slice_get_within p.axioms n a at), (a, at, ap origins.Axiom (sym (add-one n)), h)))
+    | inl e ↦ inr (inl (n, omega arith, slice_get_within p.axioms n a at, (a, at, ap origins.Axiom (sym (add-one n)), h)))
+    | inr (inl lt) ↦ inl (a, kept_back o.axioms p.axioms w.axioms n a (omega (arith, lt, w.new_from)) at, h)
+    | inr (inr gt) ↦ inr (inl (n, omega arith, slice_get_within p.axioms n a at, (a, at, ap origins.Axiom (sym (add-one n)), h)))
   ]
   old_or_new (origins.Expr e) g (node, at, h) =
       let there : e.0 < length p.nodes = slice_get_within p.nodes e.0 node at in
-      let a : e.0 < length r' = omega (arith, R'.0) in let b : e.0 < length l' = omega (arith, L'.0) in let c : e.0 < length fr = omega (arith, FR.0) in
       elim h [
         | inl x ↦ elim (cases_marked r e.0) [
           | inl k ↦ (let t : e.0 < length o.nodes = omega (arith, slice_get_within r e.0 true k, R.0) in inl (node, kept_back o.nodes p.nodes w.nodes e.0 node t at, inl ((R.1 e.0 t).0 k, x.1)))
-          | inr k ↦ inr (inr (e.0, omega arith, c, (node, at, refl, inl ((FR.1 e.0 a).1 ((R'.1 e.0 there).1 x.0, k), x.1))))
+          | inr k ↦ (let fresh : IsFreshAt r' r e.0 = ((R'.1 e.0 there).1 x.0, k) in inr (expressed e.0 g node at (noted e.0 (inl fresh)) (inl (fresh, x.1))))
         ]
         | inr y ↦ elim (cases_marked l e.0) [
           | inl k ↦ (let t : e.0 < length o.nodes = omega (arith, slice_get_within l e.0 true k, L.0) in inl (node, kept_back o.nodes p.nodes w.nodes e.0 node t at, inr ((L.1 e.0 t).0 k, y.1)))
-          | inr k ↦ inr (inr (e.0, omega arith, c, (node, at, refl, inr ((FL.1 e.0 b).1 ((L'.1 e.0 there).1 y.0, k), y.1))))
+          | inr k ↦ (let fresh : IsFreshAt l' l e.0 = ((L'.1 e.0 there).1 y.0, k) in inr (expressed e.0 g node at (noted e.0 (inr fresh)) (inr (fresh, y.1))))
         ]
       ]
 
@@ -119,29 +108,28 @@ module _ (o p : Ontology) (before asked : List ℕ) (from : ℕ) (w : Grows o p 
   apart by g old (inl (n, low, _, (_, _, e, _))) =
       let P : Origin → Type 0 = λ x. GivenBy o before x g in let q = subst P e old in
       omega (arith, low, w.new_from, slice_get_within o.axioms n q.0 (sym (number_at o.axioms n) ∙ q.1))
-  apart by g old (inr (n, _, high, (node, at, e, h))) =
+  apart by g old (inr (_, _, _, (n, _, (node, at, e, h)))) =
       let P : Origin → Type 0 = λ x. GivenBy o before x g in let q = subst P e old in
       let here : n < length o.nodes = slice_get_within o.nodes n q.0 q.1 in
       let same : q.0 ≡ node = one_value _ q.0 node (w.nodes n q.0 q.1) at in
-      let there : n < length p.nodes = slice_get_within p.nodes n node at in
       let S : Node → Type 0 = λ x. RightGives n x g in let T : Node → Type 0 = λ x. LeftGives n x g in
       elim h [
         | inl x ↦ elim q.2 [
-          | inl y ↦ ((FR.1 n (omega (arith, R'.0))).0 x.0).1 ((R.1 n here).1 y.0)
+          | inl y ↦ x.0.1 ((R.1 n here).1 y.0)
           | inr y ↦ sides_apart n node g x.1 (subst T same y.1)
         ]
         | inr x ↦ elim q.2 [
           | inl y ↦ sides_apart n node g (subst S same y.1) x.1
-          | inr y ↦ ((FL.1 n (omega (arith, L'.0))).0 x.0).1 ((L.1 n here).1 y.0)
+          | inr y ↦ x.0.1 ((L.1 n here).1 y.0)
         ]
       ]
 
-  grown_adds : (s t u : Made) (xs : List Entry) (lists : Apartness) → AreNumbered lists.lists lists.disjoint_axioms lists.different_axioms → s.entries ≡ [] → s.apart ≡ no_apartness → Adds no_forms (record { entries = xs; apart = lists; operands = s.operands; steps = s.steps }) (GivenBy o before) → Adds s t (StatedFrom p.axioms from m) → Adds t u (ExpressedTo p.nodes fr fl (length fr)) → Adds no_forms (record { entries = xs ++ u.entries; apart = joined_apartness lists u.apart; operands = u.operands; steps = u.steps }) (GivenBy p asked)
+  grown_adds : (s t u : Made) (xs : List Entry) (lists : Apartness) → AreNumbered lists.lists lists.disjoint_axioms lists.different_axioms → s.entries ≡ [] → s.apart ≡ no_apartness → Adds no_forms (record { entries = xs; apart = lists; operands = s.operands; steps = s.steps }) (GivenBy o before) → Adds s t (StatedFrom p.axioms from (length p.axioms)) → Adds t u (ExpressedTo p.nodes (IsFreshAt r' r) (IsFreshAt l' l) numbers (length numbers)) → Adds no_forms (record { entries = xs ++ u.entries; apart = joined_apartness lists u.apart; operands = u.operands; steps = u.steps }) (GivenBy p asked)
   unfolding New
   grown_adds s t u xs lists num none no_lists old a b = adds_same (λ by g. GivenBy o before by g ⊎ New by g) (GivenBy p asked)
       (λ by g h. elim h [ inl x ↦ more_given o p before asked from w more by g x | inr y ↦ new_given by g y ]) old_or_new
       (adds_both (GivenBy o before) New apart old (adds_behind xs lists num s u New none no_lists
-      (adds_both (StatedFrom p.axioms from m) (ExpressedTo p.nodes fr fl (length fr)) (stated_apart p.axioms p.nodes fr fl from m (length fr)) a b)))
+      (adds_both (StatedFrom p.axioms from (length p.axioms)) (ExpressedTo p.nodes (IsFreshAt r' r) (IsFreshAt l' l) numbers (length numbers)) (stated_apart p.axioms p.nodes (IsFreshAt r' r) (IsFreshAt l' l) numbers from (length p.axioms) (length numbers)) a b)))
 
 -- ---- what callers see
 
@@ -231,33 +219,32 @@ adds_normal o v a c r l = record {
 abbrev apart_of : Listing → Apartness
 apart_of v = record { lists = v.apart; disjoint_axioms = v.disjoint_axioms; different_axioms = v.different_axioms }
 
--- the forms of before, and behind them those of u, which were made of s without forms
-pub grown_normal : (o p : Ontology) (v : Listing) (asked : List ℕ) (right left : List Bool) (from : ℕ) → Grows o p from → ((e : ℕ) → Contains v.asked e → Contains asked e) → (fr fl : List Bool) → MarksOccurring AtRight p asked right → MarksOccurring AtLeft p asked left → FreshTo right v.right fr (length right) → FreshTo left v.left fl (length left)
-    → (m : ℕ) → m ≡ length p.axioms → (s t u : Made) → s.entries ≡ [] → s.apart ≡ no_apartness → s.operands ≡ v.operands → s.steps ≡ v.steps → Adds s t (StatedFrom p.axioms from m) → (NameChains (take from p.axioms) s.steps → NameChains p.axioms t.steps) → Adds t u (ExpressedTo p.nodes fr fl (length fr)) → IsNormalFor o v
+-- the forms of before, and behind them those that were made
+pub grown_normal : (o p : Ontology) (v : Listing) (asked : List ℕ) (right left : List Bool) (from : ℕ) → Grows o p from → ((e : ℕ) → Contains v.asked e → Contains asked e) → MarksOccurring AtRight p asked right → MarksOccurring AtLeft p asked left → (u : Made) → MakesMore p from v right left u → IsNormalFor o v
     → IsNormalFor p (record { entries = v.entries ++ u.entries; apart = joined_lists v.apart u.apart.lists; disjoint_axioms = v.disjoint_axioms ++ u.apart.disjoint_axioms; different_axioms = v.different_axioms ++ u.apart.different_axioms; operands = u.operands; steps = u.steps; asked = asked; right = right; left = left })
-grown_normal o p v asked right left from w more fr fl R' L' FR FL m em s t u none no_lists eo es a c b n =
+grown_normal o p v asked right left from w more R' L' u m n =
     let P : List (List ℕ) → Type 0 = λ x. Adds no_forms (record { entries = v.entries; apart = apart_of v; operands = x; steps = v.steps }) (GivenBy o v.asked) in
-    let Q : List (List ℕ) → Type 0 = λ x. Adds no_forms (record { entries = v.entries; apart = apart_of v; operands = s.operands; steps = x }) (GivenBy o v.asked) in
+    let Q : List (List ℕ) → Type 0 = λ x. Adds no_forms (record { entries = v.entries; apart = apart_of v; operands = m.begun.operands; steps = x }) (GivenBy o v.asked) in
     adds_normal p (record { entries = v.entries ++ u.entries; apart = joined_lists v.apart u.apart.lists; disjoint_axioms = v.disjoint_axioms ++ u.apart.disjoint_axioms; different_axioms = v.different_axioms ++ u.apart.different_axioms; operands = u.operands; steps = u.steps; asked = asked; right = right; left = left })
-    (grown_adds o p v.asked asked from w more v.right right v.left left fr fl n.right R' n.left L' FR FL m em s t u v.entries (apart_of v) n.numbered none no_lists (subst Q (sym es) (subst P (sym eo) (normal_adds o v n))) a b) named R' L'
+    (grown_adds o p v.asked asked from w more v.right right v.left left n.right R' n.left L' m.numbers m.fresh m.begun m.stated u v.entries (apart_of v) n.numbered m.no_entries m.no_apart (subst Q (sym m.steps) (subst P (sym m.operands) (normal_adds o v n))) m.states m.expresses) named R' L'
   where
     kept : take from p.axioms ≡ o.axioms
     kept = ap (λ k. take k p.axioms) w.new_from ∙ kept_front o.axioms p.axioms w.axioms
 
     named : NameChains p.axioms u.steps
     named =
-        subst (NameChains p.axioms) (sym (expressions_name_none t u p.nodes fr fl (length fr) b))
-        (c (subst (NameChains (take from p.axioms)) (sym es) (subst (λ xs. NameChains xs v.steps) (sym kept) n.chains)))
+        subst (NameChains p.axioms) (sym (expressions_name_none m.stated u p.nodes (IsFreshAt right v.right) (IsFreshAt left v.left) m.numbers (length m.numbers) m.expresses))
+        (m.chains (subst (NameChains (take from p.axioms)) (sym m.steps) (subst (λ xs. NameChains xs v.steps) (sym kept) n.chains)))
 
-pub grown_kept : (v : Listing) (asked : List ℕ) (right left : List Bool) (s t u : Made) → s.entries ≡ [] → s.operands ≡ v.operands → s.steps ≡ v.steps → (G H : Origin → Form → Type 0) → Adds s t G → Adds t u H
+pub grown_kept : (p : Ontology) (from : ℕ) (v : Listing) (asked : List ℕ) (right left right' left' : List Bool) (u : Made) → MakesMore p from v right' left' u
     → Grown v (record { entries = v.entries ++ u.entries; apart = joined_lists v.apart u.apart.lists; disjoint_axioms = v.disjoint_axioms ++ u.apart.disjoint_axioms; different_axioms = v.different_axioms ++ u.apart.different_axioms; operands = u.operands; steps = u.steps; asked = asked; right = right; left = left })
-grown_kept v asked right left s t u none eo es G H a b = record {
+grown_kept p from v asked right left right' left' u m = record {
   entries = before v.entries u.entries;
   apart = (u.apart.lists, refl);
   disjoint_axioms = before v.disjoint_axioms u.apart.disjoint_axioms;
   different_axioms = before v.different_axioms u.apart.different_axioms;
-  operands = λ n x g. b.operands.keeps n x (a.operands.keeps n x (ap (λ xs. slice_get xs n) eo ∙ g));
-  steps = λ n x g. b.steps.keeps n x (a.steps.keeps n x (ap (λ xs. slice_get xs n) es ∙ g));
+  operands = λ n x g. m.expresses.operands.keeps n x (m.states.operands.keeps n x (ap (λ xs. slice_get xs n) m.operands ∙ g));
+  steps = λ n x g. m.expresses.steps.keeps n x (m.states.steps.keeps n x (ap (λ xs. slice_get xs n) m.steps ∙ g));
 }
 
 -- what is the same has all with the same numbers

@@ -16,3 +16,4 @@ pub mod Keeping
 pub mod ProblemForms
 pub mod AddingRoots
 pub mod AddingLists
+pub mod Named

@@ -1,33 +1,39 @@
--- Marks that are new.
-use Rattle.std.proofs.Common.{◌≡◌, ℕ, ◌+◌, ◌<◌, inl, inr, Bool, true, List, ◌++◌, [], ◌∷◌, length, slice_get, Some, sym, ap, ◌∙◌, subst, arith, length-append}
-use Rattle.std.specs.Prelude.{◌↔◌}
-use Rattle.std.proofs.lemmas.Bool.{cases_eq}
-use Rattle.std.proofs.lemmas.Option.{same_Some}
-use Rattle.lemmas.proofs.Places.{slice_get_push, slice_get_push_cases, keeps_push}
-use Rattle.normalise.specs.Growth.{IsFreshAt, FreshTo}
+-- Numbers that are noted, in ascending order.
+use Rattle.std.proofs.Common.{◌≡◌, ℕ, ◌<◌, ◌⊎◌, inl, inr, Bool, List, ◌++◌, length, slice_get, Some, Contains, AllPairs, sym, subst, subst₂, arith}
+use Rattle.std.specs.Ordering.{nat_cmp}
+use Rattle.std.specs.declared.cmp.Ordering.TheVariants.{Less}
+use Rattle.std.proofs.lemmas.Bool.{cases_order}
+use Rattle.std.proofs.lemmas.Cmp.{ranked}
+use Rattle.std.proofs.lemmas.List.Elements.{Contains-append_left, Contains-append_right}
+use Rattle.std.proofs.lemmas.Option.{get_or_from_slice_get, slice_get_within}
 use Rattle.axioms.specs.Ontology.{Node}
-use Rattle.normalise.specs.Marks.{IsMarked}
+use Rattle.axioms.specs.WellFormedness.{AreDistinct}
 use Rattle.normalise.specs.declared.made.Made.{Made}
+use Rattle.normalise.specs.Growth.{IsFreshAt}
 use Rattle.normalise.specs.Steps.{ExpressedTo}
 use Rattle.normalise.specs.View.{Adds}
 
-pub fresh_more : (now before fresh : List Bool) (k : ℕ) (b : Bool) → FreshTo now before fresh k → (b ≡ true) ↔ IsFreshAt now before k → FreshTo now before (fresh ++ b ∷ []) (k + 1)
-fresh_more now before fresh k b h f = (length-append fresh (b ∷ []) ∙ ap (λ n. n + 1) h.0, each)
+pub ascending_once : (xs : List ℕ) → AllPairs (λ a b. nat_cmp a b ≡ Less) xs → AreDistinct xs
+ascending_once xs up m n x h l = elim (cases_order m n) [
+  | inl same ↦ same
+  | inr (inl less) ↦ absurd (twice m n h l less)
+  | inr (inr more) ↦ absurd (twice n m l h more)
+]
   where
-    each : (e : ℕ) → e < k + 1 → IsMarked (fresh ++ b ∷ []) e ↔ IsFreshAt now before e
-    each e l = elim (cases_eq e (length fresh)) [
-      | inl i ↦ (let same : e ≡ k = i ∙ h.0 in let P : ℕ → Type 0 = λ n. IsFreshAt now before n in (
-        (λ m. subst P (sym same) (f.0 (same_Some b true (sym (slice_get_push fresh b) ∙ ap (slice_get (fresh ++ b ∷ [])) (sym i) ∙ m)))),
-        (λ m. ap (slice_get (fresh ++ b ∷ [])) i ∙ slice_get_push fresh b ∙ ap Some (f.1 (subst P same m))),
-      ))
-      | inr ne ↦ (let l' : e < k = omega (arith, h.0) in (
-        (λ m. (h.1 e l').0 (elim (slice_get_push_cases fresh b e true m) [ inl g ↦ g | inr g ↦ absurd (ne g.0) ])),
-        (λ m. keeps_push fresh b e true ((h.1 e l').1 m)),
-      ))
-    ]
+    twice : (i j : ℕ) → slice_get xs i ≡ Some x → slice_get xs j ≡ Some x → i < j → ⊥
+    twice i j at there low =
+        let less : nat_cmp x x ≡ Less = subst₂ (λ (a b : ℕ). nat_cmp a b ≡ Less) (get_or_from_slice_get xs i x x at) (get_or_from_slice_get xs j x x there) (up i j x low (slice_get_within xs j x there)) in
+        let below : x < x = ranked x x Less (sym less) in
+        omega arith
 
-pub fresh_at : (now now' before before' fresh : List Bool) → now ≡ now' → before ≡ before' → FreshTo now before fresh (length now) → FreshTo now' before' fresh (length now')
-fresh_at now now' before before' fresh e f h = subst (λ b. FreshTo now' b fresh (length now')) f (subst (λ a. FreshTo a before fresh (length a)) e h)
+pub of_both : (xs ys zs : List ℕ) → zs ≡ xs ++ ys → (e : ℕ) → Contains xs e ⊎ Contains ys e → Contains zs e
+of_both xs ys zs is e h = subst (λ l. Contains l e) (sym is) (elim h [ inl c ↦ Contains-append_left xs ys e c | inr c ↦ Contains-append_right xs ys e c ])
 
-pub express_at : (s t : Made) (nodes : List Node) (r r' l l' : List Bool) → r ≡ r' → l ≡ l' → Adds s t (ExpressedTo nodes r l (length r)) → Adds s t (ExpressedTo nodes r' l' (length r'))
-express_at s t nodes r r' l l' e f h = subst (λ b. Adds s t (ExpressedTo nodes r' b (length r'))) f (subst (λ a. Adds s t (ExpressedTo nodes a l (length a))) e h)
+-- the same lists, by other names
+pub express_at : {s t : Made} (nodes : List Node) (r r' b b' l l' a a' : List Bool) (numbers numbers' : List ℕ) → r ≡ r' → b ≡ b' → l ≡ l' → a ≡ a' → numbers ≡ numbers' → Adds s t (ExpressedTo nodes (IsFreshAt r b) (IsFreshAt l a) numbers (length numbers)) → Adds s t (ExpressedTo nodes (IsFreshAt r' b') (IsFreshAt l' a') numbers' (length numbers'))
+express_at {s} {t} nodes r r' b b' l l' a a' numbers numbers' er eb el ea en h =
+    subst (λ xs. Adds s t (ExpressedTo nodes (IsFreshAt r' b') (IsFreshAt l' a') xs (length xs))) en
+    (subst (λ xs. Adds s t (ExpressedTo nodes (IsFreshAt r' b') (IsFreshAt l' xs) numbers (length numbers))) ea
+    (subst (λ xs. Adds s t (ExpressedTo nodes (IsFreshAt r' b') (IsFreshAt xs a) numbers (length numbers))) el
+    (subst (λ xs. Adds s t (ExpressedTo nodes (IsFreshAt r' xs) (IsFreshAt l a) numbers (length numbers))) eb
+    (subst (λ xs. Adds s t (ExpressedTo nodes (IsFreshAt xs b) (IsFreshAt l a) numbers (length numbers))) er h))))

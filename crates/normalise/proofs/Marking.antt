@@ -1,13 +1,17 @@
--- Marks: none, one, those of two steps, those of a list; and all that marks reach.
-use Rattle.std.proofs.Common.{◌≡◌, ℕ, zero, suc, ◌+◌, ◌<◌, ◌≤◌, ◌⊎◌, inl, inr, Bool, true, List, [], ◌∷◌, length, set, slice_get, Some, Contains, refl, sym, ap, ◌∙◌, subst, arith, length-set}
+-- Marks and what is noted of them: none, one, those of two steps, those of a list; and all that marks reach.
+use Rattle.std.proofs.Common.{◌≡◌, ℕ, zero, suc, ◌+◌, ◌<◌, ◌≤◌, ◌⊎◌, inl, inr, Bool, true, false, List, [], ◌∷◌, ◌++◌, length, set, slice_get, Some, None, Contains, refl, sym, ap, ◌∙◌, subst, arith, length-set, length-append}
 use Rattle.std.proofs.lemmas.Bool.{cases_eq}
-use Rattle.std.proofs.lemmas.Option.{same_Some, slice_get_within}
-use Rattle.std.proofs.lemmas.List.Elements.{All-contains}
+use Rattle.std.proofs.lemmas.Option.{none-some, same_Some, slice_get_within}
+use Rattle.std.proofs.lemmas.List.Elements.{All-contains, Contains-push_cases}
 use Rattle.axioms.specs.Ontology.{Ontology, Node, Class, And, Exists, IsPart}
 use Rattle.axioms.specs.WellFormedness.{IsOntology}
+use Rattle.lemmas.proofs.Choices.{one_value}
 use Rattle.lemmas.proofs.Members.{Contains-from_slice_get, slice_get-from_Contains}
+use Rattle.lemmas.proofs.Places.{keeps_push, slice_get_push, slice_get_there}
 use Rattle.normal_forms.specs.Occurrences.{Reached, itself, part}
-use Rattle.normalise.specs.Marks.{IsMarked, Marks, Closes, ClosesAt, EachOf}
+use Rattle.normalise.specs.declared.marks.Marked.{Marked}
+use Rattle.normalise.specs.Marks.{AreNotedMarked, IsMarked, IsPartOf, Marks, MarksMore, Notes, Closes, EachFrom, EachOf, unmarked}
+use Rattle.normalise.specs.View.{Keeps}
 
 set_same : {X : Type 0} (xs : List X) (n : ℕ) (x : X) → n < length xs → slice_get (set xs n x) n ≡ Some x
 set_same [] n x l = absurd (omega arith)
@@ -57,13 +61,87 @@ marks_both P Q m n = record {
   ];
 }
 
+-- ---- with what is noted
+
+pub contains_kept : {X : Type 0} (xs ys : List X) → Keeps xs ys → (x : X) → Contains xs x → Contains ys x
+contains_kept xs ys keeps x c = let p = slice_get-from_Contains xs x c in Contains-from_slice_get ys p.0 x (keeps p.0 x p.1)
+
+pub notes_both : {a b c : Marked} → ((e : ℕ) → IsMarked b.marks.items e → IsMarked c.marks.items e) → Notes a b → Notes b c → Notes a c
+notes_both {a} {b} {c} kept m n = record {
+  keeps = λ k x g. n.keeps k x (m.keeps k x g);
+  each = λ e h. elim (n.each e h) [
+    | inl i ↦ elim (m.each e i) [ inl j ↦ inl j | inr j ↦ inr (kept e j) ]
+    | inr i ↦ inr i
+  ];
+  all = λ e h. elim (n.all e h) [
+    | inl i ↦ elim (m.all e i) [ inl j ↦ inl j | inr j ↦ inr (contains_kept b.noted.items c.noted.items n.keeps e j) ]
+    | inr i ↦ inr i
+  ];
+  count = n.count ∙ m.count;
+}
+
+-- nothing changes, where what P says is marked
+pub more_there : (m : Marked) (P : ℕ → Type 0) → ((e : ℕ) → e < length m.marks.items → P e → IsMarked m.marks.items e) → MarksMore m m P
+more_there m P there = record {
+  marks = record { same_length = refl; kept = λ e h. h; only = λ e h. inl h; all = there };
+  notes = record { keeps = λ n x g. g; each = λ e h. inl h; all = λ e h. inl h; count = refl };
+}
+
+pub more_none : (m : Marked) (P : ℕ → Type 0) → ((e : ℕ) → e < length m.marks.items → P e → ⊥) → MarksMore m m P
+more_none m P none = more_there m P (λ e l p. absurd (none e l p))
+
+-- nothing changes, where it has no mark that could be set
+pub more_kept : (m : Marked) (n : ℕ) → (slice_get m.marks.items n ≡ Some false → ⊥) → MarksMore m m (λ e. e ≡ n)
+more_kept m n out = more_there m (λ e. e ≡ n) (λ e l i. go e i (slice_get_there m.marks.items e l))
+  where
+    go : (e : ℕ) → e ≡ n → ((b : Bool) × (slice_get m.marks.items e ≡ Some b)) → IsMarked m.marks.items e
+    go e i (true, g) = g
+    go e i (false, g) = absurd (out (subst (λ k. slice_get m.marks.items k ≡ Some false) i g))
+
+unmarked_set : (xs : List Bool) (n : ℕ) → slice_get xs n ≡ Some false → unmarked (set xs n true) + 1 ≡ unmarked xs
+unmarked_set [] n h = absurd (none-some false h)
+unmarked_set (true ∷ xs) zero h = absurd cc
+unmarked_set (false ∷ xs) zero h = omega arith
+unmarked_set (true ∷ xs) (suc n) h = unmarked_set xs n h
+unmarked_set (false ∷ xs) (suc n) h = omega (arith, unmarked_set xs n h)
+
+-- one is marked, and noted
+pub more_set : (old new : Marked) (n : ℕ) → slice_get old.marks.items n ≡ Some false → new.marks.items ≡ set old.marks.items n true → new.noted.items ≡ old.noted.items ++ n ∷ [] → MarksMore old new (λ e. e ≡ n)
+more_set old new n unset em en = record {
+  marks = marks;
+  notes = record {
+    keeps = λ k x g. ap (λ xs. slice_get xs k) en ∙ keeps_push old.noted.items n k x g;
+    each = λ e h. elim (Contains-push_cases old.noted.items n e (subst (λ xs. Contains xs e) en h)) [ inl i ↦ inl i | inr i ↦ inr (subst (IsMarked new.marks.items) i here) ];
+    all = λ e h. elim (marks.only e h) [ inl k ↦ inl k | inr q ↦ inr (subst (Contains new.noted.items) (sym q) noted) ];
+    count = omega (arith, ap unmarked em, ap length en, length-append old.noted.items (n ∷ []), unmarked_set old.marks.items n unset);
+  };
+}
+  where
+    within : n < length old.marks.items
+    within = slice_get_within old.marks.items n false unset
+
+    marks : Marks old.marks.items new.marks.items (λ e. e ≡ n)
+    marks = let P : List Bool → Type 0 = λ xs. Marks old.marks.items xs (λ e. e ≡ n) in subst P (sym em) (marks_set old.marks.items n within)
+
+    here : IsMarked new.marks.items n
+    here = marks.all n within refl
+
+    noted : Contains new.noted.items n
+    noted = subst (λ xs. Contains xs n) (sym en) (Contains-from_slice_get (old.noted.items ++ n ∷ []) (length old.noted.items) n (slice_get_push old.noted.items n))
+
+pub more_same : {a b : Marked} (P Q : ℕ → Type 0) → ((e : ℕ) → P e → Q e) → ((e : ℕ) → Q e → P e) → MarksMore a b P → MarksMore a b Q
+more_same P Q to from m = record { marks = marks_same P Q to from m.marks; notes = m.notes }
+
+pub more_both : {a b c : Marked} (P Q : ℕ → Type 0) → MarksMore a b P → MarksMore b c Q → MarksMore a c (λ e. P e ⊎ Q e)
+more_both P Q m n = record { marks = marks_both P Q m.marks n.marks; notes = notes_both n.marks.kept m.notes n.notes }
+
 -- ---- the marks of a list, one after the other
 
-pub each_none : {X : Type 0} (xs : List X) (F : X → ℕ → Type 0) (m : List Bool) → Marks m m (EachOf xs F 0)
-each_none xs F m = marks_none m (EachOf xs F 0) (λ e l h. absurd (omega (arith, h.1)))
+pub each_none : {X : Type 0} (xs : List X) (F : X → ℕ → Type 0) (m : Marked) → MarksMore m m (EachOf xs F 0)
+each_none xs F m = more_none m (EachOf xs F 0) (λ e l h. absurd (omega (arith, h.1)))
 
-pub each_more : {X : Type 0} (xs : List X) (F : X → ℕ → Type 0) (k : ℕ) (x : X) {a b c : List Bool} → slice_get xs k ≡ Some x → Marks a b (EachOf xs F k) → Marks b c (F x) → Marks a c (EachOf xs F (k + 1))
-each_more xs F k x g m n = marks_same (λ e. EachOf xs F k e ⊎ F x e) (EachOf xs F (k + 1)) to from (marks_both (EachOf xs F k) (F x) m n)
+pub each_more : {X : Type 0} (xs : List X) (F : X → ℕ → Type 0) (k : ℕ) (x : X) {a b c : Marked} → slice_get xs k ≡ Some x → MarksMore a b (EachOf xs F k) → MarksMore b c (F x) → MarksMore a c (EachOf xs F (k + 1))
+each_more xs F k x g m n = more_same (λ e. EachOf xs F k e ⊎ F x e) (EachOf xs F (k + 1)) to from (more_both (EachOf xs F k) (F x) m n)
   where
     to : (e : ℕ) → EachOf xs F k e ⊎ F x e → EachOf xs F (k + 1) e
     to e (inl (i, l, y)) = (i, omega arith, y)
@@ -75,19 +153,31 @@ each_more xs F k x g m n = marks_same (λ e. EachOf xs F k e ⊎ F x e) (EachOf 
       | inr ne ↦ inl (i, omega arith, (y, gy, f))
     ]
 
--- at the end it is those of each member
-pub each_all : {X : Type 0} (xs : List X) (F : X → ℕ → Type 0) (k : ℕ) {a b : List Bool} → length xs ≤ k → Marks a b (EachOf xs F k) → Marks a b (λ e. (x : X) × Contains xs x × F x e)
-each_all {X} xs F k l m = marks_same (EachOf xs F k) (λ e. (x : X) × Contains xs x × F x e) to from m
-  where
-    to : (e : ℕ) → EachOf xs F k e → (x : X) × Contains xs x × F x e
-    to e (i, l', (y, gy, f)) = (y, Contains-from_slice_get xs i y gy, f)
-
-    from : (e : ℕ) → ((x : X) × Contains xs x × F x e) → EachOf xs F k e
-    from e (x, c, f) = let p = slice_get-from_Contains xs x c in let w : p.0 < length xs = slice_get_within xs p.0 x p.1 in (p.0, omega arith, (x, p.1, f))
-
 -- at the end it is the members, where each marks itself
-pub each_member : (xs : List ℕ) (k : ℕ) {a b : List Bool} → length xs ≤ k → Marks a b (EachOf xs (λ x e. e ≡ x) k) → Marks a b (Contains xs)
-each_member xs k l m = marks_same (λ e. (x : ℕ) × Contains xs x × (e ≡ x)) (Contains xs) (λ e h. subst (Contains xs) (sym h.2) h.1) (λ e h. (e, h, refl)) (each_all xs (λ x e. e ≡ x) k l m)
+pub each_member : (xs : List ℕ) (k : ℕ) {a b : Marked} → length xs ≤ k → MarksMore a b (EachOf xs (λ x e. e ≡ x) k) → MarksMore a b (Contains xs)
+each_member xs k l m = more_same (EachOf xs (λ x e. e ≡ x) k) (Contains xs) to from m
+  where
+    to : (e : ℕ) → EachOf xs (λ x e. e ≡ x) k e → Contains xs e
+    to e (i, l', (y, gy, f)) = subst (Contains xs) (sym f) (Contains-from_slice_get xs i y gy)
+
+    from : (e : ℕ) → Contains xs e → EachOf xs (λ x e. e ≡ x) k e
+    from e c = let p = slice_get-from_Contains xs e c in let w : p.0 < length xs = slice_get_within xs p.0 e p.1 in (p.0, omega arith, (e, p.1, refl))
+
+pub from_none : {X : Type 0} (xs : List X) (F : X → ℕ → Type 0) (from : ℕ) (m : Marked) → MarksMore m m (EachFrom xs F from from)
+from_none xs F from m = more_none m (EachFrom xs F from from) (λ e l h. absurd (omega (arith, h.1, h.2)))
+
+pub from_more : {X : Type 0} (xs : List X) (F : X → ℕ → Type 0) (start k : ℕ) (x : X) {a b c : Marked} → start ≤ k → slice_get xs k ≡ Some x → MarksMore a b (EachFrom xs F start k) → MarksMore b c (F x) → MarksMore a c (EachFrom xs F start (k + 1))
+from_more xs F start k x low g m n = more_same (λ e. EachFrom xs F start k e ⊎ F x e) (EachFrom xs F start (k + 1)) to back (more_both (EachFrom xs F start k) (F x) m n)
+  where
+    to : (e : ℕ) → EachFrom xs F start k e ⊎ F x e → EachFrom xs F start (k + 1) e
+    to e (inl (i, s, l, y)) = (i, s, omega arith, y)
+    to e (inr f) = (k, low, omega arith, (x, g, f))
+
+    back : (e : ℕ) → EachFrom xs F start (k + 1) e → EachFrom xs F start k e ⊎ F x e
+    back e (i, s, l, (y, gy, f)) = elim (cases_eq i k) [
+      | inl j ↦ inr (let P : _ → Type 0 = λ z. F z e in subst P (same_Some y x (sym gy ∙ ap (slice_get xs) j ∙ g)) f)
+      | inr ne ↦ inl (i, s, omega arith, (y, gy, f))
+    ]
 
 -- ---- all that marks reach
 
@@ -97,44 +187,63 @@ part_smaller o ok d (Class c) e g p = absurd p
 part_smaller o ok d (And ds) e g p = All-contains (λ x. x < d) ds e (ok.nodes d (And ds) g).within p
 part_smaller o ok d (Exists r c) e g p = let l : c < d = (ok.nodes d (Exists r c) g).1 in omega (arith, p)
 
--- from the place on, parts of what is marked are marked
-pub record IsClosing (nodes : List Node) (old now : List Bool) (from : ℕ) : Type 0 where
-  pub same_length : length now ≡ length old
-  pub kept : (e : ℕ) → IsMarked old e → IsMarked now e
-  pub only : (e : ℕ) → IsMarked now e → Reached nodes (IsMarked old) e
-  pub closed : (d : ℕ) (node : Node) (e : ℕ) → from ≤ d → IsMarked now d → slice_get nodes d ≡ Some node → IsPart node e → IsMarked now e
+-- the parts of the expression of that number are those of the node there
+pub below_part : {a b : Marked} (nodes : List Node) (d : ℕ) (node : Node) → slice_get nodes d ≡ Some node → MarksMore a b (IsPart node) → MarksMore a b (IsPartOf nodes d)
+below_part nodes d node at = more_same (IsPart node) (IsPartOf nodes d) (λ e p. (node, at, p)) (λ e h. (let P : Node → Type 0 = λ z. IsPart z e in subst P (one_value _ h.0 node h.1 at) h.2))
 
-pub closing_begins : (nodes : List Node) (m : List Bool) → length m ≡ length nodes → IsClosing nodes m m (length m)
-closing_begins nodes m s = record {
+pub below_none : (m : Marked) (nodes : List Node) (d : ℕ) → slice_get nodes d ≡ None → MarksMore m m (IsPartOf nodes d)
+below_none m nodes d none = more_none m (IsPartOf nodes d) (λ e l h. none-some h.0 (sym none ∙ h.1))
+
+-- the parts are marked of what is noted before the place
+pub record IsClosing (nodes : List Node) (old now : Marked) (next : ℕ) : Type 0 where
+  pub same_length : length now.marks.items ≡ length old.marks.items
+  pub kept : (e : ℕ) → IsMarked old.marks.items e → IsMarked now.marks.items e
+  pub only : (e : ℕ) → IsMarked now.marks.items e → Reached nodes (IsMarked old.marks.items) e
+  pub notes : Notes old now
+  pub noted : AreNotedMarked now
+  pub closed : (i d : ℕ) (node : Node) (e : ℕ) → i < next → slice_get now.noted.items i ≡ Some d → slice_get nodes d ≡ Some node → IsPart node e → e < length now.marks.items → IsMarked now.marks.items e
+
+pub closing_begins : (nodes : List Node) (m : Marked) → AreNotedMarked m → IsClosing nodes m m 0
+closing_begins nodes m noted = record {
   same_length = refl;
   kept = λ e h. h;
   only = λ e h. itself h;
-  closed = λ d node e l h g p. absurd (omega (arith, slice_get_within m d true h));
+  notes = record { keeps = λ n x g. g; each = λ e h. inl h; all = λ e h. inl h; count = refl };
+  noted = noted;
+  closed = λ i d node e l at g p w. absurd (omega arith);
 }
 
-pub closing_more : (o : Ontology) → IsOntology o → (old now new : List Bool) (at : ℕ) → length old ≡ length o.nodes → IsClosing o.nodes old now (at + 1) → ClosesAt o.nodes now new at → IsClosing o.nodes old new at
-closing_more o ok old now new at s h step = record {
-  same_length = step.same_length ∙ h.same_length;
-  kept = λ e m. step.kept e (h.kept e m);
-  only = λ e m. elim (step.only e m) [
+pub closing_more : (nodes : List Node) (old now new : Marked) (next d : ℕ) → slice_get now.noted.items next ≡ Some d → IsClosing nodes old now next → MarksMore now new (IsPartOf nodes d) → IsClosing nodes old new (next + 1)
+closing_more nodes old now new next d here h step = record {
+  same_length = step.marks.same_length ∙ h.same_length;
+  kept = λ e m. step.marks.kept e (h.kept e m);
+  only = λ e m. elim (step.marks.only e m) [
     | inl k ↦ h.only e k
-    | inr p ↦ part at p.1.0 (h.only at p.0) p.1.1 p.1.2
+    | inr p ↦ part d p.0 (h.only d (h.noted d (Contains-from_slice_get now.noted.items next d here))) p.1 p.2
   ];
-  closed = λ d node e l m g p. elim (step.only d m) [
-    | inl k ↦ elim (cases_eq d at) [
-      | inl i ↦ step.all e (within d node e g p) (subst (IsMarked now) i k, (node, subst (λ n. slice_get o.nodes n ≡ Some node) i g, p))
-      | inr ne ↦ step.kept e (h.closed d node e (omega arith) k g p)
-    ]
-    | inr q ↦ absurd (omega (arith, part_smaller o ok at q.1.0 d q.1.1 q.1.2))
-  ];
+  notes = notes_both step.marks.kept h.notes step.notes;
+  noted = λ e c. elim (step.notes.each e c) [ inl i ↦ step.marks.kept e (h.noted e i) | inr i ↦ i ];
+  closed = λ i k node e l at g p w. closed i k node e l at g p (omega (arith, w, step.marks.same_length));
 }
   where
-    within : (d : ℕ) (node : Node) (e : ℕ) → slice_get o.nodes d ≡ Some node → IsPart node e → e < length now
-    within d node e g p = omega (arith, s, h.same_length, part_smaller o ok d node e g p, slice_get_within o.nodes d node g)
+    closed : (i k : ℕ) (node : Node) (e : ℕ) → i < next + 1 → slice_get new.noted.items i ≡ Some k → slice_get nodes k ≡ Some node → IsPart node e → e < length now.marks.items → IsMarked new.marks.items e
+    closed i k node e l at g p w = elim (cases_eq i next) [
+      | inl s ↦ (let same : d ≡ k = one_value _ d k (step.notes.keeps next d here) (subst (λ n. slice_get new.noted.items n ≡ Some k) s at) in
+          step.marks.all e w (node, subst (λ n. slice_get nodes n ≡ Some node) (sym same) g, p))
+      | inr ne ↦ (let q = slice_get_there now.noted.items i (omega (arith, l, slice_get_within now.noted.items next d here)) in
+          let same : q.0 ≡ k = one_value _ q.0 k (step.notes.keeps i q.0 q.1) at in
+          step.marks.kept e (h.closed i k node e (omega arith) (q.1 ∙ ap Some same) g p w))
+    ]
 
-reached_marked : (nodes : List Node) (old now : List Bool) → IsClosing nodes old now 0 → (e : ℕ) → Reached nodes (IsMarked old) e → IsMarked now e
-reached_marked nodes old now h e (itself p) = h.kept e p
-reached_marked nodes old now h e (part d node r g p) = h.closed d node e (omega arith) (reached_marked nodes old now h d r) g p
+-- the place is not yet behind all that there may be to note
+pub closing_within : (nodes : List Node) (old now : Marked) (next : ℕ) → IsClosing nodes old now next → length now.noted.items ≤ unmarked old.marks.items + length old.noted.items
+closing_within nodes old now next h = omega (arith, h.notes.count)
 
-pub closed_all : (nodes : List Node) (old now : List Bool) → IsClosing nodes old now 0 → Closes nodes old now
-closed_all nodes old now h = record { same_length = h.same_length; only = h.only; all = reached_marked nodes old now h }
+pub closed_all : (nodes : List Node) (old now : Marked) (next : ℕ) → length now.noted.items ≤ next → IsClosing nodes old now next → Closes nodes old now
+closed_all nodes old now next end h = record {
+  same_length = h.same_length;
+  kept = h.kept;
+  only = h.only;
+  notes = h.notes;
+  closed = λ d node e c g p w. (let q = slice_get-from_Contains now.noted.items d c in h.closed q.0 d node e (omega (arith, end, slice_get_within now.noted.items q.0 d q.1)) q.1 g p w);
+}

@@ -1,7 +1,7 @@
 -- Normal forms of an ontology, which may grow at its end.
-use Rattle.std.specs.Prelude.{◌≡◌, ℕ, ◌↔◌, ◌<◌, Bool, List, length, map, slice_get, Some}
-use Rattle.std.specs.List.{All}
-use Rattle.axioms.specs.Ontology.{Ontology}
+use Rattle.std.specs.Prelude.{◌≡◌, ℕ, ◌⊎◌, ◌<◌, Bool, List, [], length, map, slice_get, Some, take}
+use Rattle.std.specs.List.{All, Contains}
+use Rattle.axioms.specs.Ontology.{Ontology, Axiom}
 use Rattle.axioms.specs.WellFormedness.{AreDistinct, IsOntology}
 use Rattle.axioms.specs.declared.ids.ExprId.{ExprId}
 use Rattle.axioms.specs.declared.ids.IndId.{IndId}
@@ -10,15 +10,17 @@ use Rattle.normal_forms.specs.declared.forms.Origin.TheVariants as origins
 use Rattle.normal_forms.specs.Apart.{AreContinuedBy, AreListedAt}
 use Rattle.normal_forms.specs.Forms.{Form, IsForm}
 use Rattle.normal_forms.specs.Origins.{GivenBy}
-use Rattle.normal_forms.specs.Occurrences.{AtLeft, AtRight}
+use Rattle.normal_forms.specs.Occurrences.{AtLeft, AtRight, AtSome}
 use Rattle.normal_forms.specs.Properties.{IsPropertyFormOf}
-use Rattle.normalise.specs.Apart.{AreNumbered, different_individuals, disjoint_classes}
+use Rattle.normalise.specs.Apart.{AreNumbered, different_individuals, disjoint_classes, no_apartness}
 use Rattle.normalise.specs.Entries.{form_in}
 use Rattle.normalise.specs.Listing.{Listing}
 use Rattle.normalise.specs.Marks.{IsMarked, MarksOccurring}
 use Rattle.normalise.specs.FreshNames.{BeginsIntersection, NameChains}
-use Rattle.normalise.specs.View.{IsAt, Keeps, Listed, Place}
+use Rattle.normalise.specs.Steps.{ExpressedTo, StatedFrom}
+use Rattle.normalise.specs.View.{Adds, IsAt, Keeps, Listed, Place}
 use Rattle.normalise.specs.declared.made.Made.{Made}
+use Rattle.normalise.specs.declared.marks.Marked.{Marked}
 
 -- the n-th form is g, of that origin
 abbrev pub Has : Listing → ℕ → Origin → Form → Type 0
@@ -92,5 +94,28 @@ pub record Grown (old new : Listing) : Type 0 where
 abbrev pub IsFreshAt : List Bool → List Bool → ℕ → Type 0
 IsFreshAt now before e = IsMarked now e × (IsMarked before e → ⊥)
 
-abbrev pub FreshTo : List Bool → List Bool → List Bool → ℕ → Type 0
-FreshTo now before fresh k = (length fresh ≡ k) × ((e : ℕ) → e < k → IsMarked fresh e ↔ IsFreshAt now before e)
+-- each expression that an axiom of o has on the side is there
+abbrev pub AreThere : (Axiom → ℕ → Type 0) → Ontology → Type 0
+AreThere At o = (e : ℕ) → AtSome At o.axioms e → e < length o.nodes
+
+-- where the old marks are those of an ontology, the new ones are those of p, which it has become with more axioms from that place on
+abbrev pub AreMarkedAgain : (Axiom → ℕ → Type 0) → Ontology → ℕ → List ℕ → List Bool → List Bool → Type 0
+AreMarkedAgain At p from asked old new = (o : Ontology) (before : List ℕ) → MarksOccurring At o before old → AreThere At o → Grows o p from → ((e : ℕ) → Contains before e → Contains asked e) → MarksOccurring At p asked new
+
+-- what is marked and was not before is noted
+abbrev pub AreNoted : List Bool → Marked → Type 0
+AreNoted before m = (e : ℕ) → IsMarked m.marks.items e → IsMarked before e ⊎ Contains m.noted.items e
+
+-- behind the fresh names of v: the forms of the axioms of p from that place on, and then of what is marked now and was not before
+pub record MakesMore (p : Ontology) (from : ℕ) (v : Listing) (right left : List Bool) (new : Made) : Type 0 where
+  pub begun : Made
+  pub no_entries : begun.entries ≡ []
+  pub no_apart : begun.apart ≡ no_apartness
+  pub operands : begun.operands ≡ v.operands
+  pub steps : begun.steps ≡ v.steps
+  pub stated : Made
+  pub states : Adds begun stated (StatedFrom p.axioms from (length p.axioms))
+  pub chains : NameChains (take from p.axioms) begun.steps → NameChains p.axioms stated.steps
+  pub numbers : List ℕ
+  pub fresh : (e : ℕ) → IsFreshAt right v.right e ⊎ IsFreshAt left v.left e → Contains numbers e
+  pub expresses : Adds stated new (ExpressedTo p.nodes (IsFreshAt right v.right) (IsFreshAt left v.left) numbers (length numbers))

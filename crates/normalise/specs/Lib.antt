@@ -2,6 +2,7 @@ pub mod Entries
 pub mod Apart
 pub mod Listing
 pub mod Marks
+pub mod Named
 pub mod View
 pub mod FreshNames
 pub mod Steps

@@ -1,7 +1,10 @@
 -- Marks on expressions, by their numbers.
-use Rattle.std.specs.Prelude.{◌≡◌, ℕ, ◌<◌, ◌⊎◌, ◌↔◌, Bool, true, List, length, slice_get, Some}
+use Rattle.std.specs.Prelude.{◌≡◌, ℕ, suc, ◌+◌, ◌<◌, ◌≤◌, ◌⊎◌, ◌↔◌, Bool, true, false, List, [], ◌∷◌, length, slice_get, Some}
+use Rattle.std.specs.List.{Contains}
 use Rattle.axioms.specs.Ontology.{Ontology, Axiom, Node, IsPart}
 use Rattle.normal_forms.specs.Occurrences.{AtLeft, AtRight, Occurs, Reached}
+use Rattle.normalise.specs.View.{Keeps}
+use Rattle.normalise.specs.declared.marks.Marked.{Marked}
 use Rattle.normalise.specs.declared.marks.Side.{Side}
 use Rattle.normalise.specs.declared.marks.Side.TheVariants as sides
 
@@ -20,23 +23,47 @@ pub record Marks (old new : List Bool) (P : ℕ → Type 0) : Type 0 where
   pub only : (e : ℕ) → IsMarked new e → IsMarked old e ⊎ P e
   pub all : (e : ℕ) → e < length old → P e → IsMarked new e
 
--- new has what the marks of old reach, and nothing else
-pub record Closes (nodes : List Node) (old new : List Bool) : Type 0 where
-  pub same_length : length new ≡ length old
-  pub only : (e : ℕ) → IsMarked new e → Reached nodes (IsMarked old) e
-  pub all : (e : ℕ) → Reached nodes (IsMarked old) e → IsMarked new e
+-- how many are not marked
+abbrev pub unmarked : List Bool → ℕ
+unmarked [] = 0
+unmarked (true ∷ marks) = unmarked marks
+unmarked (false ∷ marks) = suc (unmarked marks)
 
--- a part of the expression at that place, where that is marked
-abbrev pub IsPartAt : List Node → List Bool → ℕ → ℕ → Type 0
-IsPartAt nodes marks at e = IsMarked marks at × ((node : Node) × (slice_get nodes at ≡ Some node) × IsPart node e)
+-- behind the numbers of old, new has noted what it has marked newly, each once
+pub record Notes (old new : Marked) : Type 0 where
+  pub keeps : Keeps old.noted.items new.noted.items
+  pub each : (e : ℕ) → Contains new.noted.items e → Contains old.noted.items e ⊎ IsMarked new.marks.items e
+  pub all : (e : ℕ) → IsMarked new.marks.items e → IsMarked old.marks.items e ⊎ Contains new.noted.items e
+  pub count : unmarked new.marks.items + length new.noted.items ≡ unmarked old.marks.items + length old.noted.items
 
--- one step of it
-abbrev pub ClosesAt : List Node → List Bool → List Bool → ℕ → Type 0
-ClosesAt nodes old new at = Marks old new (IsPartAt nodes old at)
+-- new has the marks of old, and those that P says, and has noted those that are new
+pub record MarksMore (old new : Marked) (P : ℕ → Type 0) : Type 0 where
+  pub marks : Marks old.marks.items new.marks.items P
+  pub notes : Notes old new
+
+-- what is noted is marked
+abbrev pub AreNotedMarked : Marked → Type 0
+AreNotedMarked m = (e : ℕ) → Contains m.noted.items e → IsMarked m.marks.items e
+
+-- new has the marks of old and others that these reach; and the parts of what is noted are marked
+pub record Closes (nodes : List Node) (old new : Marked) : Type 0 where
+  pub same_length : length new.marks.items ≡ length old.marks.items
+  pub kept : (e : ℕ) → IsMarked old.marks.items e → IsMarked new.marks.items e
+  pub only : (e : ℕ) → IsMarked new.marks.items e → Reached nodes (IsMarked old.marks.items) e
+  pub notes : Notes old new
+  pub closed : (d : ℕ) (node : Node) (e : ℕ) → Contains new.noted.items d → slice_get nodes d ≡ Some node → IsPart node e → e < length new.marks.items → IsMarked new.marks.items e
+
+-- a part of the expression of that number
+abbrev pub IsPartOf : List Node → ℕ → ℕ → Type 0
+IsPartOf nodes d e = (node : Node) × (slice_get nodes d ≡ Some node) × IsPart node e
 
 -- what F says of one of the first k elements
 abbrev pub EachOf : {X : Type 0} → List X → (X → ℕ → Type 0) → ℕ → ℕ → Type 0
 EachOf {X} xs F k e = (n : ℕ) × (n < k) × ((x : X) × (slice_get xs n ≡ Some x) × F x e)
+
+-- what F says of one of the elements from a place on and below another
+abbrev pub EachFrom : {X : Type 0} → List X → (X → ℕ → Type 0) → ℕ → ℕ → ℕ → Type 0
+EachFrom {X} xs F from k e = (n : ℕ) × (from ≤ n) × (n < k) × ((x : X) × (slice_get xs n ≡ Some x) × F x e)
 
 -- the marks are on what occurs
 abbrev pub MarksOccurring : (Axiom → ℕ → Type 0) → Ontology → List ℕ → List Bool → Type 0

@@ -11,7 +11,6 @@ use Rattle.normal_forms.specs.declared.forms.Origin.TheVariants as origins
 use Rattle.normal_forms.specs.Forms.{Form, Whole, Property, N1, first_of, first_steps}
 use Rattle.normal_forms.specs.Origins.{AndGives, AxiomGives, ChainGives, LeftGives, RightGives}
 use Rattle.normalise.specs.declared.made.Made.{Made}
-use Rattle.normalise.specs.Marks.{IsMarked}
 use Rattle.normalise.specs.FreshNames.{AreNumberedByFirstPlace, NameChains, prefixes_below, prefixes_of}
 use Rattle.normalise.specs.View.{Adds, From, Lengthens, Lists, SaysClass, SaysProperty, StartsClass, StartsProperty}
 
@@ -92,12 +91,16 @@ SideGives node whole right left = From (origins.Expr whole) (λ g. ((right ≡ t
 abbrev pub Within : (ℕ → Origin → Form → Type 0) → ℕ → ℕ → Origin → Form → Type 0
 Within F from k o g = (n : ℕ) × (from ≤ n) × (n < k) × F n o g
 
--- what the n-th expression gives where it is marked
-abbrev pub ExpressedAt : List Node → List Bool → List Bool → ℕ → Origin → Form → Type 0
-ExpressedAt nodes right left n o g = (node : Node) × (slice_get nodes n ≡ Some node) × (o ≡ origins.Expr (record { 0 = n })) × ((IsMarked right n × RightGives n node g) ⊎ (IsMarked left n × LeftGives n node g))
+-- what the n-th expression gives, right where R says so and left where L does
+abbrev pub ExpressedAt : List Node → (ℕ → Type 0) → (ℕ → Type 0) → ℕ → Origin → Form → Type 0
+ExpressedAt nodes R L n o g = (node : Node) × (slice_get nodes n ≡ Some node) × (o ≡ origins.Expr (record { 0 = n })) × ((R n × RightGives n node g) ⊎ (L n × LeftGives n node g))
 
-abbrev pub ExpressedTo : List Node → List Bool → List Bool → ℕ → Origin → Form → Type 0
-ExpressedTo nodes right left k = Within (ExpressedAt nodes right left) 0 k
+-- what the expression gives whose number stands at that place
+abbrev pub ExpressedBy : List Node → (ℕ → Type 0) → (ℕ → Type 0) → List ℕ → ℕ → Origin → Form → Type 0
+ExpressedBy nodes R L numbers place o g = (n : ℕ) × (slice_get numbers place ≡ Some n) × ExpressedAt nodes R L n o g
+
+abbrev pub ExpressedTo : List Node → (ℕ → Type 0) → (ℕ → Type 0) → List ℕ → ℕ → Origin → Form → Type 0
+ExpressedTo nodes R L numbers k = Within (ExpressedBy nodes R L numbers) 0 k
 
 -- what the axiom gives that stands at that place
 abbrev pub StatedAt : List Axiom → ℕ → Origin → Form → Type 0

@@ -1,14 +1,16 @@
 //! The forms of expressions that occur.
-ghost use Rattle.std.specs.Prelude.{◌≡◌, ◌<◌, ◌≤◌, ◌^◌, OnOk, length};
+ghost use Rattle.std.specs.Prelude.{◌≡◌, ◌<◌, OnOk, length};
 ghost use Rattle.axioms.specs.Ontology.{And};
 ghost use Rattle.axioms.specs.View.{expr_numbers, node_of};
 ghost use Rattle.axioms.specs.WellFormedness.{AreDistinct};
 ghost use Rattle.normal_forms.specs.Origins.{LeftGives, RightGives};
+ghost use Rattle.normalise.specs.Growth.{IsFreshAt};
 ghost use Rattle.normalise.specs.Steps.{BelowOperand, ExpressedAt, ExpressedTo, LeftGivesIf, PartsDiffer, RightGivesIf, SideGives};
 ghost use Rattle.normalise.specs.View.{Adds, From};
 
 use crate::lists::expr_at;
 use crate::made::Made;
+use crate::new_marks::Change;
 use axioms::{Expr, ExprId, Memory, Ontology};
 use normal_forms::{Class2, Form, Origin};
 
@@ -106,40 +108,38 @@ impl Made {
         Ok(())
     }
 
-    // What the expression of that number gives, where it is marked.
+    // What the expression of that number gives on the sides on which it is marked and was not before.
     fn express(
         &mut self,
         ontology: &Ontology,
-        right: &[bool],
-        left: &[bool],
-        k: usize,
+        number: u32,
+        right: Change<'_>,
+        left: Change<'_>,
     ) -> Result<(), Memory>
-        requires right { k < length right.now }
-        requires left { k < length left.now }
-        requires small { k < 2 ^ 32 }
-        ensures { OnOk result (Adds self.old self.new (ExpressedAt ontology.now.nodes right.now left.now k)) }
+        ensures { OnOk result (Adds self.old self.new (ExpressedAt ontology.now.nodes (IsFreshAt right.entry.marks.now right.entry.before.now) (IsFreshAt left.entry.marks.now left.entry.before.now) number)) }
     {
-        let whole = ExprId(k as u32);
+        let whole = ExprId(number);
         let Some(expr) = ontology.expr(whole) else {
             return Ok(());
         };
-        self.sides(expr, whole, right[k], left[k])?;
+        let place = whole.index();
+        self.sides(expr, whole, right.is_fresh(place), left.is_fresh(place))?;
         Ok(())
     }
 
-    // What the expressions give that are marked.
+    // What the expressions of those numbers give on the sides on which they are marked and were not before.
     pub(crate) fn express_all(
         &mut self,
         ontology: &Ontology,
-        right: &[bool],
-        left: &[bool],
+        numbers: &[u32],
+        right: Change<'_>,
+        left: Change<'_>,
     ) -> Result<(), Memory>
-        requires same { length left.now ≡ length right.now }
-        requires small { length right.now ≤ 2 ^ 32 }
-        ensures { OnOk result (Adds self.old self.new (ExpressedTo ontology.now.nodes right.now left.now (length right.now))) }
+        requires { AreDistinct numbers.now }
+        ensures { OnOk result (Adds self.old self.new (ExpressedTo ontology.now.nodes (IsFreshAt right.entry.marks.now right.entry.before.now) (IsFreshAt left.entry.marks.now left.entry.before.now) numbers.now (length numbers.now))) }
     {
-        for k in 0..right.len() {
-            self.express(ontology, right, left, k)?;
+        for number in numbers {
+            self.express(ontology, *number, right, left)?;
         }
         Ok(())
     }

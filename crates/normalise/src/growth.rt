@@ -3,13 +3,14 @@ ghost use Rattle.std.specs.Prelude.{◌≡◌, ℕ, [], ◌↔◌, ◌<◌, ◌�
 ghost use Rattle.axioms.specs.Growth.{Numbers};
 ghost use Rattle.axioms.specs.View.{expr_numbers};
 ghost use Rattle.normalise.specs.Additions.{joined};
-ghost use Rattle.normalise.specs.Growth.{AreNormalAgain, Grown, IsNormalFor};
+ghost use Rattle.normalise.specs.Growth.{AreNormalAgain, AreNoted, Grown, IsNormalFor, MakesMore};
+ghost use Rattle.normalise.specs.Named.{AreNamedBelowMarks};
 
 use crate::made::Made;
-use crate::marks::Side;
-use crate::new_marks::fresh;
+use crate::marks::{Marked, Side};
+use crate::new_marks::{Change, numbers_of};
 use crate::normal::Normal;
-use crate::occurring::occurring_marks;
+use crate::occurring::occurring_again;
 use axioms::{ExprId, Memory, Ontology};
 use std::alloc::Global;
 use std::hash::RandomState;
@@ -56,6 +57,35 @@ pub(crate) struct More {
 }
 
 impl Normal {
+    // The forms of the axioms after `from`, and of what is marked and was not before.
+    fn made_again(
+        &self,
+        ontology: &Ontology,
+        from: usize,
+        right: &Marked,
+        left: &Marked,
+    ) -> Result<Made, Memory>
+        requires within { from ≤ length ontology.now.axioms }
+        requires right { AreNoted self.now.right right.now }
+        requires left { AreNoted self.now.left left.now }
+        ensures { IfOk result (MakesMore ontology.now from self.now right.now.marks.items left.now.marks.items) }
+    {
+        ontology.well_formed();
+        let numbers = numbers_of(self.alloc, &right.noted, &left.noted)?;
+        let mut made = self.made.begun(self.alloc)?;
+        made.state_all(ontology.axioms(), from)?;
+        let right = Change {
+            marks: &right.marks,
+            before: &self.right,
+        };
+        let left = Change {
+            marks: &left.marks,
+            before: &self.left,
+        };
+        made.express_all(ontology, &numbers, right, left)?;
+        Ok(made)
+    }
+
     // What is added where the ontology has grown after axiom `from`, and all of these are asked about.
     fn more(&self, ontology: &Ontology, from: usize, asked: Vec<ExprId>) -> Result<More, Memory>
         requires { from ≤ length ontology.now.axioms }
@@ -63,26 +93,23 @@ impl Normal {
         ensures kept { IfOk result (λ m. Grown self.now (joined self.now m)) }
         ensures forms { IfOk result (λ m. ((e : ℕ) → Contains self.now.asked e → Contains (expr_numbers asked.items) e) →
             AreNormalAgain ontology.now from self.now (joined self.now m)) }
+        ensures named { IfOk result (λ m. AreNamedBelowMarks (joined self.now m)) }
     {
         ontology.well_formed();
-        ontology.bounded();
-        let right = occurring_marks(self.alloc, ontology, &asked, Side::Right)?;
-        let left = occurring_marks(self.alloc, ontology, &asked, Side::Left)?;
-        let fresh_right = fresh(self.alloc, &right, &self.right)?;
-        let fresh_left = fresh(self.alloc, &left, &self.left)?;
-        let mut made = self.made.begun(self.alloc)?;
-        made.state_all(ontology.axioms(), from)?;
-        made.express_all(ontology, &fresh_right, &fresh_left)?;
+        let right = occurring_again(self.alloc, ontology, from, &self.right, &asked, Side::Right)?;
+        let left = occurring_again(self.alloc, ontology, from, &self.left, &asked, Side::Left)?;
+        let made = self.made_again(ontology, from, &right, &left)?;
         Ok(More {
             made,
             asked,
-            right,
-            left,
+            right: right.marks,
+            left: left.marks,
         })
     }
 
     // These forms, and what is added to them.
     fn joined(&self, more: More) -> Result<Normal, Memory>
+        requires { AreNamedBelowMarks (joined self.now more) }
         ensures { IfOk result (λ n. n ≡ joined self.now more) }
     {
         let More {

@@ -1,13 +1,12 @@
-//! Which expressions occur on a side, for a whole list of axioms at once.
-ghost use Rattle.std.specs.Prelude.{◌≡◌, ◌<◌, ◌≤◌, ◌^◌, length, map};
+//! Which expressions occur on a side, for a list of axioms at once, with the numbers of those that are marked newly.
+ghost use Rattle.std.specs.Prelude.{◌≡◌, ◌↔◌, ◌≤◌, IsTrue, OnOk, false, length, map, slice_get, Some};
 ghost use Rattle.std.specs.List.{Contains};
 ghost use Rattle.axioms.specs.Ontology.{IsPart};
 ghost use Rattle.axioms.specs.View.{axiom_of, expr_numbers, node_of};
-ghost use Rattle.axioms.specs.WellFormedness.{IsOntology};
-ghost use Rattle.normal_forms.specs.Occurrences.{AtLeft, AtRight, AtSome};
-ghost use Rattle.normalise.specs.Marks.{AtSide, Closes, ClosesAt, Marks};
+ghost use Rattle.normal_forms.specs.Occurrences.{AtLeft, AtRight};
+ghost use Rattle.normalise.specs.Marks.{AreNotedMarked, AtSide, Closes, EachFrom, IsPartOf, MarksMore};
 
-use axioms::{Axiom, Expr, ExprId, Ontology};
+use axioms::{Axiom, Expr, ExprId, Memory, Ontology};
 
 /// A side on which expressions occur.
 #[derive(Clone, Copy)]
@@ -18,99 +17,129 @@ pub(crate) enum Side {
     Left,
 }
 
-pub(crate) fn mark(marks: &mut [bool], id: ExprId)
-    ensures { Marks marks.old marks.new (λ e. e ≡ id.0) }
-{
-    let place = id.index();
-    if place < marks.len() {
-        marks[place] = true;
-    }
+/// Which expressions are marked, by number, and the numbers of those that were marked since the start.
+#[derive(Drop)]
+pub(crate) struct Marked {
+    pub(crate) marks: Vec<bool>,
+    pub(crate) noted: Vec<u32>,
 }
 
-pub(crate) fn mark_all(marks: &mut [bool], ids: &[ExprId])
-    ensures { Marks marks.old marks.new (Contains (expr_numbers ids.now)) }
+// Whether there is a mark of that number, and it is not set.
+fn is_unset(marks: &[bool], number: usize) -> bool
+    ensures { IsTrue result ↔ (slice_get marks.now number ≡ Some false) }
 {
-    for id in ids {
-        mark(marks, *id);
-    }
+    number < marks.len() && !marks[number]
 }
 
-fn mark_parts(marks: &mut [bool], expr: &Expr)
-    ensures { Marks marks.old marks.new (IsPart (node_of expr.now)) }
-{
-    match expr {
-        Expr::Class(_) => {}
-        Expr::And(operands) => mark_all(marks, operands),
-        Expr::Some(_, filler) => mark(marks, *filler),
-    }
-}
-
-// Marks what the axiom has at a place where something lies below it.
-fn mark_right(marks: &mut [bool], axiom: &Axiom)
-    ensures { Marks marks.old marks.new (AtRight (axiom_of «axiom».now)) }
-{
-    match axiom {
-        Axiom::SubClass(_, sup) => mark(marks, *sup),
-        Axiom::EquivalentClasses(classes) => mark_all(marks, classes),
-        Axiom::Domain(_, class) => mark(marks, *class),
-        Axiom::ClassAssertion(class, _) => mark(marks, *class),
-        _ => {}
-    }
-}
-
-// Marks what the axiom has at a place where it lies below something.
-fn mark_left(marks: &mut [bool], axiom: &Axiom)
-    ensures { Marks marks.old marks.new (AtLeft (axiom_of «axiom».now)) }
-{
-    match axiom {
-        Axiom::SubClass(sub, _) => mark(marks, *sub),
-        Axiom::EquivalentClasses(classes) => mark_all(marks, classes),
-        Axiom::DisjointClasses(classes) => mark_all(marks, classes),
-        _ => {}
-    }
-}
-
-// Marks what the axiom has on the side.
-fn mark_side(marks: &mut [bool], axiom: &Axiom, side: Side)
-    ensures { Marks marks.old marks.new (AtSide side (axiom_of «axiom».now)) }
-{
-    match side {
-        Side::Right => mark_right(marks, axiom),
-        Side::Left => mark_left(marks, axiom),
-    }
-}
-
-// Marks what the axioms have on the side.
-pub(crate) fn mark_axioms(marks: &mut [bool], axioms: &[Axiom], side: Side)
-    ensures { Marks marks.old marks.new (AtSome (AtSide side) (map axiom_of axioms.now)) }
-{
-    for item in axioms {
-        mark_side(marks, item, side);
-    }
-}
-
-// Marks the parts of the expression of that number, where it is marked.
-fn mark_below(marks: &mut [bool], ontology: &Ontology, at: usize)
-    requires { at < 2 ^ 32 }
-    ensures { ClosesAt ontology.now.nodes marks.old marks.new at }
-{
-    if at < marks.len() && marks[at] {
-        if let Some(expr) = ontology.expr(ExprId(at as u32)) {
-            mark_parts(marks, expr);
+impl Marked {
+    // Marks the expression, and notes its number where it was not marked.
+    fn mark(&mut self, id: ExprId) -> Result<(), Memory>
+        ensures { OnOk result (MarksMore self.old self.new (λ e. e ≡ id.0)) }
+    {
+        let place = id.index();
+        if is_unset(&self.marks, place) {
+            let ExprId(number) = id;
+            self.noted.push(number)?;
+            self.marks[place] = true;
         }
+        Ok(())
     }
-}
 
-// Marks the parts of what is marked, their parts, and so on, a whole before its parts, which have smaller numbers.
-pub(crate) fn close(marks: &mut [bool], ontology: &Ontology)
-    requires within { length marks.old ≡ length ontology.now.nodes }
-    requires small { length marks.old ≤ 2 ^ 32 }
-    requires valid { IsOntology ontology.now }
-    ensures { Closes ontology.now.nodes marks.old marks.new }
-{
-    let mut left = marks.len();
-    while left > 0 {
-        left -= 1;
-        mark_below(marks, ontology, left);
+    pub(crate) fn mark_all(&mut self, ids: &[ExprId]) -> Result<(), Memory>
+        ensures { OnOk result (MarksMore self.old self.new (Contains (expr_numbers ids.now))) }
+    {
+        for id in ids {
+            self.mark(*id)?;
+        }
+        Ok(())
+    }
+
+    fn mark_parts(&mut self, expr: &Expr) -> Result<(), Memory>
+        ensures { OnOk result (MarksMore self.old self.new (IsPart (node_of expr.now))) }
+    {
+        match expr {
+            Expr::Class(_) => {}
+            Expr::And(operands) => self.mark_all(operands)?,
+            Expr::Some(_, filler) => self.mark(*filler)?,
+        }
+        Ok(())
+    }
+
+    // Marks what the axiom has at a place where something lies below it.
+    fn mark_right(&mut self, axiom: &Axiom) -> Result<(), Memory>
+        ensures { OnOk result (MarksMore self.old self.new (AtRight (axiom_of «axiom».now))) }
+    {
+        match axiom {
+            Axiom::SubClass(_, sup) => self.mark(*sup)?,
+            Axiom::EquivalentClasses(classes) => self.mark_all(classes)?,
+            Axiom::Domain(_, class) => self.mark(*class)?,
+            Axiom::ClassAssertion(class, _) => self.mark(*class)?,
+            _ => {}
+        }
+        Ok(())
+    }
+
+    // Marks what the axiom has at a place where it lies below something.
+    fn mark_left(&mut self, axiom: &Axiom) -> Result<(), Memory>
+        ensures { OnOk result (MarksMore self.old self.new (AtLeft (axiom_of «axiom».now))) }
+    {
+        match axiom {
+            Axiom::SubClass(sub, _) => self.mark(*sub)?,
+            Axiom::EquivalentClasses(classes) => self.mark_all(classes)?,
+            Axiom::DisjointClasses(classes) => self.mark_all(classes)?,
+            _ => {}
+        }
+        Ok(())
+    }
+
+    // Marks what the axiom has on the side.
+    fn mark_side(&mut self, axiom: &Axiom, side: Side) -> Result<(), Memory>
+        ensures { OnOk result (MarksMore self.old self.new (AtSide side (axiom_of «axiom».now))) }
+    {
+        match side {
+            Side::Right => self.mark_right(axiom)?,
+            Side::Left => self.mark_left(axiom)?,
+        }
+        Ok(())
+    }
+
+    // Marks what the axioms from that place on have on the side.
+    pub(crate) fn mark_axioms(
+        &mut self,
+        axioms: &[Axiom],
+        from: usize,
+        side: Side,
+    ) -> Result<(), Memory>
+        requires { from ≤ length axioms.now }
+        ensures { OnOk result (MarksMore self.old self.new (EachFrom (map axiom_of axioms.now) (AtSide side) from (length axioms.now))) }
+    {
+        for k in from..axioms.len() {
+            self.mark_side(&axioms[k], side)?;
+        }
+        Ok(())
+    }
+
+    // Marks the parts of the expression of that number.
+    fn mark_below(&mut self, ontology: &Ontology, id: ExprId) -> Result<(), Memory>
+        ensures { OnOk result (MarksMore self.old self.new (IsPartOf ontology.now.nodes id.0)) }
+    {
+        if let Some(expr) = ontology.expr(id) {
+            self.mark_parts(expr)?;
+        }
+        Ok(())
+    }
+
+    // Marks the parts of what was noted, their parts, and so on.
+    pub(crate) fn close(&mut self, ontology: &Ontology) -> Result<(), Memory>
+        requires { AreNotedMarked self.old }
+        ensures { OnOk result (Closes ontology.now.nodes self.old self.new) }
+    {
+        let mut next = 0;
+        while next < self.noted.len() {
+            let number = self.noted[next];
+            self.mark_below(ontology, ExprId(number))?;
+            next += 1;
+        }
+        Ok(())
     }
 }

@@ -1,28 +1,45 @@
-//! What occurs now and did not before.
-ghost use Rattle.std.specs.Prelude.{◌↔◌, ◌<◌, IfOk, IsTrue, length};
-ghost use Rattle.normalise.specs.Growth.{FreshTo, IsFreshAt};
+//! What is marked now and was not before.
+ghost use Rattle.std.specs.Prelude.{◌↔◌, ◌⊎◌, ℕ, IfOk, IsTrue};
+ghost use Rattle.std.specs.List.{Contains};
+ghost use Rattle.axioms.specs.WellFormedness.{AreDistinct};
+ghost use Rattle.normalise.specs.Growth.{IsFreshAt};
+ghost use Rattle.normalise.specs.Marks.{IsMarked};
 
 use axioms::Memory;
+use number_sets::sort_ascending;
 use std::alloc::Global;
 
-// Whether the k-th is marked now and was not before.
-fn is_fresh(now: &[bool], before: &[bool], k: usize) -> bool
-    requires { k < length now.now }
-    ensures { IsTrue result ↔ IsFreshAt now.now before.now k }
+fn is_marked(marks: &[bool], k: usize) -> bool
+    ensures { IsTrue result ↔ IsMarked marks.now k }
 {
-    if k < before.len() && before[k] {
-        return false;
-    }
-    now[k]
+    k < marks.len() && marks[k]
 }
 
-// What is marked now and was not before.
-pub(crate) fn fresh(alloc: Global, now: &[bool], before: &[bool]) -> Result<Vec<bool>, Memory>
-    ensures { IfOk result (λ v. FreshTo now.now before.now v.items (length now.now)) }
-{
-    let mut marks = Vec::new(alloc);
-    for k in 0..now.len() {
-        marks.push(is_fresh(now, before, k))?;
+/// Which expressions are marked now, and which were before.
+#[derive(Clone, Copy)]
+pub(crate) struct Change<'a> {
+    pub(crate) marks: &'a [bool],
+    pub(crate) before: &'a [bool],
+}
+
+impl<'a> Change<'a> {
+    // Whether the expression of that number is marked now and was not before.
+    pub(crate) fn is_fresh(self, number: usize) -> bool
+        ensures { IsTrue result ↔ IsFreshAt self.entry.marks.now self.entry.before.now number }
+    {
+        is_marked(self.marks, number) && !is_marked(self.before, number)
     }
-    Ok(marks)
+}
+
+// The numbers of both lists, in ascending order, each once.
+pub(crate) fn numbers_of(alloc: Global, right: &[u32], left: &[u32]) -> Result<Vec<u32>, Memory>
+    ensures distinct { IfOk result (λ v. AreDistinct v.items) }
+    ensures all { IfOk result (λ v. (e : ℕ) → Contains right.now e ⊎ Contains left.now e → Contains v.items e) }
+{
+    let count = right.len().saturating_add(left.len());
+    let mut numbers = Vec::with_capacity(alloc, count)?;
+    numbers.extend_from_slice(right)?;
+    numbers.extend_from_slice(left)?;
+    sort_ascending(&mut numbers);
+    Ok(numbers)
 }

@@ -38,6 +38,8 @@ impl Drop for Normal {
 impl Model for Normal {
     ghost use Rattle.axioms.specs.View.{expr_numbers};
     ghost use Rattle.normalise.specs.Listing.{Listing};
+    ghost use Rattle.normalise.specs.Named.{AreNamedBelow};
+    ghost use Rattle.std.specs.Prelude.{length};
 
     ghost Value = { Listing };
 
@@ -52,6 +54,8 @@ impl Model for Normal {
       right = n.right.items;
       left = n.left.items;
     } };
+
+    ghost invariant = { λ n. AreNamedBelow (length n.right.items) n.made.entries n.made.apart.lists.classes };
 }
 
 impl Normal {

@@ -1,39 +1,49 @@
-//! What occurs on a side.
-ghost use Rattle.std.specs.Prelude.{◌≡◌, ℕ, IfOk, length};
-ghost use Rattle.axioms.specs.Growth.{IsBounded};
+//! What occurs on a side of an ontology that has grown at its end.
+ghost use Rattle.std.specs.Prelude.{◌≡◌, ◌≤◌, ◌+◌, ◌-◌, ◌++◌, IfOk, false, length, replicate};
 ghost use Rattle.axioms.specs.View.{expr_numbers};
-ghost use Rattle.axioms.specs.WellFormedness.{IsOntology};
-ghost use Rattle.normalise.specs.Marks.{AtSide, IsMarked, MarksOccurring};
+ghost use Rattle.normalise.specs.Growth.{AreMarkedAgain, AreNoted};
+ghost use Rattle.normalise.specs.Marks.{AtSide};
 
-use crate::marks::{Side, close, mark_all, mark_axioms};
+use crate::marks::{Marked, Side};
 use axioms::{ExprId, Memory, Ontology};
 use std::alloc::Global;
 
-// Marks what occurs on the side, where nothing is marked yet.
-fn mark_occurring(marks: &mut [bool], ontology: &Ontology, asked: &[ExprId], side: Side)
-    requires within { length marks.old ≡ length ontology.now.nodes }
-    requires empty { (e : ℕ) → IsMarked marks.old e → ⊥ }
-    requires bounded { IsBounded ontology.now }
-    requires valid { IsOntology ontology.now }
-    ensures { MarksOccurring (AtSide side) ontology.now (expr_numbers asked.now) marks.new }
+// The marks, and behind them unset ones, so that there are as many as that.
+fn extended(alloc: Global, before: &[bool], count: usize) -> Result<Vec<bool>, Memory>
+    ensures { IfOk result (λ m. m.items ≡ before.now ++ replicate (count - length before.now) false) }
 {
-    mark_axioms(marks, ontology.axioms(), side);
-    mark_all(marks, asked);
-    close(marks, ontology);
+    let further = vec![in alloc; false; count.saturating_sub(before.len())]?;
+    if before.is_empty() {
+        return Ok(further);
+    }
+    let mut marks = Vec::with_capacity(alloc, count.max(before.len()))?;
+    marks.extend_from_slice(before)?;
+    marks.extend_from_slice(&further)?;
+    Ok(marks)
 }
 
-// What occurs on the side.
-pub(crate) fn occurring_marks(
+// The marks on what occurred on the side, and on what occurs there now: by the axioms from that place on, and as what is asked about.
+pub(crate) fn occurring_again(
     alloc: Global,
     ontology: &Ontology,
+    from: usize,
+    before: &[bool],
     asked: &[ExprId],
     side: Side,
-) -> Result<Vec<bool>, Memory>
-    requires bounded { IsBounded ontology.now }
-    requires valid { IsOntology ontology.now }
-    ensures { IfOk result (λ m. MarksOccurring (AtSide side) ontology.now (expr_numbers asked.now) m.items) }
+) -> Result<Marked, Memory>
+    requires { from ≤ length ontology.now.axioms }
+    ensures again { IfOk result (λ m. AreMarkedAgain (AtSide side) ontology.now from (expr_numbers asked.now) before.now m.marks.items) }
+    ensures noted { IfOk result (AreNoted before.now) }
+    ensures long { IfOk result (λ m. length m.marks.items ≡ length before.now + (length ontology.now.nodes - length before.now)) }
 {
-    let mut marks = vec![in alloc; false; ontology.expression_count()]?;
-    mark_occurring(&mut marks, ontology, asked, side);
-    Ok(marks)
+    ontology.well_formed();
+    let marks = extended(alloc, before, ontology.expression_count())?;
+    let mut marked = Marked {
+        marks,
+        noted: Vec::new(alloc),
+    };
+    marked.mark_axioms(ontology.axioms(), from, side)?;
+    marked.mark_all(asked)?;
+    marked.close(ontology)?;
+    Ok(marked)
 }
