@@ -13,12 +13,13 @@ use Rattle.normal_forms.specs.Properties.{IsAtOrBelow}
 use Rattle.indexes.specs.declared.keys.Key.{Key}
 use Rattle.facts.specs.declared.contexts.Context.{Context}
 use Rattle.facts.specs.declared.contexts.Context.TheVariants.{Individual}
+use Rattle.facts.specs.declared.contexts.Fact.{Fact}
 use Rattle.facts.specs.declared.contexts.Fact.TheVariants.{In, Edge}
-use Rattle.facts.specs.Closure.{thing}
+use Rattle.facts.specs.Closure.{Problem, thing}
 use Rattle.indexes.specs.declared.keys.Key.TheVariants.{Whole}
 use Rattle.indexes.specs.Keys.{class_key, property_key, individual_key, by_kind, by_alone, by_first, by_filler, by_chain, by_plain, by_linked_first, by_linked_second, by_denied, by_target}
 use Rattle.indexes.specs.FormsUnderKeys.{IsUnder}
-use Rattle.saturate.specs.Requests.{Asks, BeginsWith, Denies, HasForm, NamesAbove, NamesClass, NamesIndividual}
+use Rattle.saturate.specs.Requests.{Asks, BeginsWith, Denies, HasForm, IsAsked, LeaveEdges, ListAsks, NamesAbove, NamesClass, NamesIndividual}
 use Rattle.inference.proofs.Lists.{Contains-from_slice_get, slice_get-from_Contains}
 
 -- a list that is not empty has some number
@@ -366,3 +367,10 @@ above_asks all x p y (N8 _ _) h = absurd h
 above_asks all x p y (N9 _ _ _) h = absurd h
 above_asks all x p y (N10 _ _) h = absurd h
 above_asks all x p y (N12 _ _ _) h = absurd h
+
+-- where no form asks for an edge, none is asked for
+pub no_edge_asked : (all : List Form) (added : Problem) → LeaveEdges added.forms → (f : Fact) (x : Context) (p : PropId2) (y : Context) → f ≡ Edge x p y → ¬ IsAsked all added f
+no_edge_asked all added leave f x p y is asked = ⊎_elim
+    (λ w. leave w.0 w.1 all x p y (subst (Asks all w.0) is w.2))
+    (λ w. let none : ListAsks w.0 (Edge x p y) = subst (ListAsks w.0) is w.2 in none)
+    asked

@@ -1,6 +1,18 @@
 -- What is named is still there where there is more; and rows of what is named.
-use Rattle.std.proofs.Common.{◌≡◌, ◌↔◌, ◌≢◌, ℕ, ◌+◌, ◌<◌, ◌≤◌, ⊎_elim, Bool, true, false, List, length, slice_get, slice_set, get_or, get_or-set_other, get_or-set_same, Some, Contains, refl, subst, sym, ◌∙◌, arith, below_more}
+use Rattle.std.proofs.Common.{◌≡◌, ◌↔◌, ◌≢◌, ℕ, ◌+◌, ◌<◌, ◌≤◌, ◌⊎◌, inl, inr, ⊎_elim, Bool, true, false, List, [], ◌∷◌, ◌++◌, length, take, slice_get, slice_set, get_or, get_or-set_other, get_or-set_same, Some, Contains, refl, ap, subst, sym, ◌∙◌, arith, below_more}
+use Rattle.std.proofs.Math.ListN.{length-set}
 use Rattle.std.proofs.lemmas.Bool.{cases_lt, false≢true}
+use Rattle.std.proofs.lemmas.Bool.Decides.{eqb_tells}
+use Rattle.std.proofs.lemmas.List.{get_or_past, take_all}
+use Rattle.std.proofs.lemmas.List.Elements.{Contains-append_left, Contains-push, Contains-push_cases}
+use Rattle.lemmas.proofs.Members.{Contains-none}
+use Rattle.lemmas.proofs.Places.{take_push}
+use Rattle.facts.specs.Closure.{Problem}
+use Rattle.axioms.specs.declared.ids.ExprId.{ExprId}
+use Rattle.normal_forms.specs.declared.forms.Class2.{Class2}
+use Rattle.normal_forms.specs.declared.forms.Class2.TheVariants as class
+use Rattle.saturate.specs.Naming.{ArePut, IsOfLists, IsOfOne, expression}
+use Rattle.saturate.specs.Requests.{AreNamed, HasForm, IsNamed, NamesClass}
 use Rattle.number_sets.specs.Members.{has}
 use Rattle.std.specs.List.{All}
 use Rattle.std.proofs.lemmas.Option.{same_Some, slice_get-get_or, slice_get_within}
@@ -60,25 +72,106 @@ is_closure c forms known has is = subst (IsClosureOf forms) (sym is) (record { s
 
 -- ---- rows of what is named
 
-abbrev TellsBelow : (ℕ → Type 0) → List Bool → ℕ → Type 0
-TellsBelow P row n = (k : ℕ) → k < n → (has row k ≡ true) ↔ P k
+-- where no class is such, nothing is put
+pub none_put : (P : Class2 → Type 0) (row : List Bool) → ((a : Class2) → ¬ P a) → ArePut P row row
+none_put P row none = record {
+  long = refl;
+  were = λ k e. e;
+  all = λ k _ is. absurd (none (expression k) is);
+  only = λ k e. inl e;
+}
 
-abbrev LacksFrom : List Bool → ℕ → Type 0
-LacksFrom row n = (k : ℕ) → n ≤ k → has row k ≡ false
+same_number : (m n : ExprId) → class.Expr m ≡ class.Expr n → m.0 ≡ n.0
+same_number m n e = let k : m ≡ n = cc in ap (λ (x : ExprId). x.0) k
 
--- one that is such is marked
-pub marked : (P : ℕ → Type 0) (row : List Bool) (n : ℕ) → n < length row → P n → TellsBelow P row n → TellsBelow P (slice_set row n true) (n + 1)
-marked P row n low is told k l = ⊎_elim
-    (λ (less : k < n). let other : k ≢ n = omega (arith, less) in rw get_or-set_other (told k less))
-    (λ (high : n ≤ k). let e : k ≡ n = omega (arith, l, high) in subst (λ (j : ℕ). (has (slice_set row n true) j ≡ true) ↔ P j) (sym e) (rw get_or-set_same ((λ _. is), (λ _. refl))))
-    (cases_lt k n)
+-- the number of that class
+pub one_put : (row : List Bool) (n : ℕ) → ArePut (λ a. a ≡ expression n) row (slice_set row n true)
+one_put row n = record {
+  long = length-set row n true;
+  were = λ k e. ⊎_elim
+      (λ w. here k w.1 (within k e))
+      (λ w. let other : k ≢ n = w.1 in rw get_or-set_other e)
+      (eqb_tells k n);
+  all = λ k low is. here k (number k is) low;
+  only = λ k e. ⊎_elim
+      (λ w. inr (ap expression w.1))
+      (λ w. let other : k ≢ n = w.1 in inl (rw get_or-set_other at e))
+      (eqb_tells k n);
+}
+  where
+    here : (k : ℕ) → k ≡ n → k < length row → has (slice_set row n true) k ≡ true
+    here k e low = subst (λ (j : ℕ). has (slice_set row n true) j ≡ true) (sym e) (let within_it : n < length row = omega (arith, low, e) in rw get_or-set_same refl)
 
-pub lacks_still : (row : List Bool) (n : ℕ) → LacksFrom row n → LacksFrom (slice_set row n true) (n + 1)
-lacks_still row n lacks k l = let other : k ≢ n = omega (arith, l) in rw get_or-set_other (lacks k (omega (arith, l)))
+    within : (k : ℕ) → has row k ≡ true → k < length row
+    within k e = ⊎_elim
+        (λ (low : k < length row). low)
+        (λ (high : length row ≤ k). absurd (false≢true (sym (get_or_past row k false high) ∙ e)))
+        (cases_lt k (length row))
 
--- one that is not stays unmarked
-pub unmarked : (P : ℕ → Type 0) (row : List Bool) (n : ℕ) → ¬ P n → TellsBelow P row n → LacksFrom row n → TellsBelow P row (n + 1)
-unmarked P row n not told lacks k l = ⊎_elim
-    (told k)
-    (λ high. let e : k ≡ n = omega (arith, l, high) in subst (λ (j : ℕ). (has row j ≡ true) ↔ P j) (sym e) ((λ yes. absurd (false≢true (sym (lacks n (omega arith)) ∙ yes))), (λ is. absurd (not is))))
-    (cases_lt k n)
+    number : (k : ℕ) → expression k ≡ expression n → k ≡ n
+    number k e = same_number (record { 0 = k }) (record { 0 = n }) e
+
+-- a fresh name has no number of an expression
+pub no_expression : (n : ℕ) (row : List Bool) → ArePut (λ a. a ≡ class.Partial n) row row
+no_expression n row = record {
+  long = refl;
+  were = λ k e. e;
+  all = λ k _ is. absurd (is_none k is);
+  only = λ k e. inl e;
+}
+  where
+    is_none : (k : ℕ) → expression k ≡ class.Partial n → ⊥
+    is_none k e = cc
+
+pub put_as : (P Q : Class2 → Type 0) {old new : List Bool} → ((a : Class2) → P a ↔ Q a) → ArePut P old new → ArePut Q old new
+put_as P Q same put = record {
+  long = put.long;
+  were = put.were;
+  all = λ k low is. put.all k low ((same (expression k)).1 is);
+  only = λ k e. ⊎_elim (λ was. inl was) (λ is. inr ((same (expression k)).0 is)) (put.only k e);
+}
+
+-- those that are such in one of two ways
+pub both_put : (P Q R : Class2 → Type 0) {old mid new : List Bool} → ((a : Class2) → R a ↔ (P a ⊎ Q a)) → ArePut P old mid → ArePut Q mid new → ArePut R old new
+both_put P Q R same p q = record {
+  long = q.long ∙ p.long;
+  were = λ k e. q.were k (p.were k e);
+  all = λ k low is. ⊎_elim (λ u. q.were k (p.all k low u)) (λ v. q.all k (omega (arith, low, p.long)) v) ((same (expression k)).0 is);
+  only = λ k e. ⊎_elim
+      (λ mid_has. ⊎_elim (λ was. inl was) (λ u. inr ((same (expression k)).1 (inl u))) (p.only k mid_has))
+      (λ v. inr ((same (expression k)).1 (inr v)))
+      (q.only k e);
+}
+
+module _ {X : Type 0} (Q : X → Class2 → Type 0) (xs : List X) where
+  -- of none
+  pub none_of : (row : List Bool) → ArePut (IsOfOne Q (take 0 xs)) row row
+  none_of row = none_put (IsOfOne Q (take 0 xs)) row (λ a w. Contains-none w.0 w.1)
+
+  -- of one more
+  pub one_more_of : (n : ℕ) (x : X) {old mid new : List Bool} → slice_get xs n ≡ Some x → ArePut (IsOfOne Q (take n xs)) old mid → ArePut (Q x) mid new → ArePut (IsOfOne Q (take (n + 1) xs)) old new
+  one_more_of n x {old = old} {new = new} at p q = subst (λ (ys : List X). ArePut (IsOfOne Q ys) old new) (sym (take_push xs n x at)) (both_put (IsOfOne Q (take n xs)) (Q x) (IsOfOne Q (take n xs ++ x ∷ [])) (λ a. (split a, join a)) p q)
+    where
+      split : (a : Class2) → IsOfOne Q (take n xs ++ x ∷ []) a → IsOfOne Q (take n xs) a ⊎ Q x a
+      split a w = ⊎_elim (λ there. inl (w.0, there, w.2)) (λ e. inr (subst (λ (y : X). Q y a) (sym e) w.2)) (Contains-push_cases (take n xs) x w.0 w.1)
+
+      join : (a : Class2) → IsOfOne Q (take n xs) a ⊎ Q x a → IsOfOne Q (take n xs ++ x ∷ []) a
+      join a h = ⊎_elim (λ w. (w.0, Contains-append_left (take n xs) (x ∷ []) w.0 w.1, w.2)) (λ is. (x, Contains-push (take n xs) x, is)) h
+
+  -- of all
+  pub of_all : (n : ℕ) {old new : List Bool} → length xs ≤ n → ArePut (IsOfOne Q (take n xs)) old new → ArePut (IsOfOne Q xs) old new
+  of_all n {old = old} {new = new} long p = subst (λ (ys : List X). ArePut (IsOfOne Q ys) old new) (take_all n xs long) p
+
+-- the classes that forms name, and then those of lists
+pub are_named : (added : Problem) {old mid new : List Bool} → ((k : ℕ) → has old k ≡ false) → ArePut (λ a. HasForm (λ form. NamesClass form a) added.forms) old mid → ArePut (IsOfLists added.apart.classes) mid new → AreNamed added new
+are_named added {old} none forms lists k low =
+    let both = both_put (λ a. HasForm (λ form. NamesClass form a) added.forms) (IsOfLists added.apart.classes) (IsNamed added) (λ a. (split a, join a)) forms lists in (
+      λ e. ⊎_elim (λ was. absurd (false≢true (sym (none k) ∙ was))) (λ is. is) (both.only k e),
+      λ is. both.all k (omega (arith, low, both.long)) is,
+    )
+  where
+    split : (a : Class2) → IsNamed added a → HasForm (λ form. NamesClass form a) added.forms ⊎ IsOfLists added.apart.classes a
+    split a h = ⊎_elim (λ w. inl w) (λ w. inr (w.1, w.3, (w.0, w.4, w.2))) h
+
+    join : (a : Class2) → HasForm (λ form. NamesClass form a) added.forms ⊎ IsOfLists added.apart.classes a → IsNamed added a
+    join a h = ⊎_elim (λ w. inl w) (λ w. inr (w.2.0, w.0, w.2.2, w.1, w.2.1)) h

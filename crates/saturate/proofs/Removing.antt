@@ -1,8 +1,9 @@
 -- What the index lists where numbers are taken out.
-use Rattle.std.proofs.Common.{◌≡◌, ℕ, suc, ap₂, ◌+◌, inl, inr, ⊎_elim, Bool, true, false, not, ◌&&◌, cond, nat_lt, List, [], ◌∷◌, ◌++◌, length, slice_get, Some, None, Contains, filter, refl, sym, ap, ◌∙◌, subst, arith, lt-ltb, le-ltb, ne_eqb, eq-eqb, ◌≤◌}
-use Rattle.std.proofs.lemmas.Bool.Decides.{eqb_tells, leb_tells}
-use Rattle.std.proofs.lemmas.List.{append-nil, get_or_past}
-use Rattle.std.proofs.lemmas.List.Elements.{filter_agree, filter-append}
+use Rattle.std.proofs.Common.{◌≡◌, ℕ, inl, inr, ⊎_elim, Bool, true, false, not, ◌↔◌, ◌&&◌, cond, List, [], ◌∷◌, ◌++◌, slice_get, Some, None, Contains, filter, refl, sym, ap, ◌∙◌, subst, ne_eqb, eq-eqb}
+use Rattle.std.proofs.lemmas.Bool.{false≢true}
+use Rattle.std.proofs.lemmas.Bool.Decides.{eqb_tells}
+use Rattle.std.proofs.lemmas.List.{append-nil}
+use Rattle.std.proofs.lemmas.List.Elements.{Contains-append_left, Contains-push, Contains-push_cases, filter_agree, filter-append}
 use Rattle.normal_forms.proofs.Filters.{kept as passing, from_kept, passes}
 use Rattle.facts.specs.declared.contexts.Context.{Context}
 use Rattle.facts.specs.declared.contexts.Fact.{Fact}
@@ -16,9 +17,10 @@ use Rattle.indexes.proofs.Parts.{part_same}
 use Rattle.indexes.specs.FactIndex.{IsIn, IsFrom, IsInto, ListsIn, Removes, RemovesIn}
 use Rattle.inference.specs.Derivations.{Derived}
 use Rattle.inference.proofs.Lists.{one_value}
-use Rattle.lemmas.proofs.Members.{Contains-first, Contains-later}
-use Rattle.saturate.specs.Flags.{is_flagged, is_kept, kept, ListsServedStill, ListsThoseKept}
+use Rattle.lemmas.proofs.Members.{Contains-first, Contains-later, Contains-none}
+use Rattle.saturate.specs.Flags.{AreThoseFlagged, is_flagged, is_kept, kept, ListsServedStill, ListsThoseKept}
 use Rattle.saturate.specs.IndexedFacts.{ListsFacts, ListsNeeded}
+use Rattle.saturate.proofs.Flagging.{by_flag}
 use Rattle.saturate.proofs.Listing.{fewer}
 
 -- ---- filters
@@ -114,78 +116,77 @@ removed {d = d} {w = w} {m = m} {n = n} {f = f} at t s = record {
 
 -- ---- the numbers that are flagged
 
--- whether the number is not flagged, or is not one of the first so many
-abbrev pub is_left : List Bool → ℕ → ℕ → Bool
-is_left flags count n = not (nat_lt n count && is_flagged flags n)
+-- an index that lists the facts of some numbers, and then those of them that are none of these
+pub record AreTakenOut (d : Derived) (gone : List ℕ) (old new : Index) : Type 0 where
+  pub stays : ℕ → Bool
+  pub of : (n : ℕ) → (stays n ≡ false) ↔ Contains gone n
+  pub lists : (k : Problem) (w m : List ℕ) → ListsFacts k d w m old → ListsFacts k d (filter stays w) (filter stays m) new
 
--- an index that lists the facts of some numbers, and then those of them that are left
-abbrev pub ListsThoseLeft : Derived → List Bool → ℕ → Index → Index → Type 0
-ListsThoseLeft d flags count old new = (k : Problem) (w m : List ℕ) → ListsFacts k d w m old → ListsFacts k d (filter (is_left flags count) w) (filter (is_left flags count) m) new
+all_pass : (xs : List ℕ) → filter (λ _. true) xs ≡ xs
+all_pass [] = refl
+all_pass (x ∷ xs) = ap (λ l. x ∷ l) (all_pass xs)
 
-all_pass : (p : ℕ → Bool) → ((n : ℕ) → p n ≡ true) → (xs : List ℕ) → filter p xs ≡ xs
-all_pass p is [] = refl
-all_pass p is (x ∷ xs) = rw (is x) (ap (λ l. x ∷ l) (all_pass p is xs))
+pub none_taken_out : (d : Derived) (index : Index) → AreTakenOut d [] index index
+none_taken_out d index = record {
+  stays = λ _. true;
+  of = λ n. ((λ e. absurd (false≢true (sym e))), (λ c. absurd (Contains-none n c)));
+  lists = λ k w m s. rw (all_pass w, all_pass m) s;
+}
 
-pub none_left_out : (d : Derived) (flags : List Bool) (index : Index) → ListsThoseLeft d flags 0 index index
-none_left_out d flags index k w m s = rw (all_pass (is_left flags 0) all w, all_pass (is_left flags 0) all m) s
-  where
-    all : (n : ℕ) → is_left flags 0 n ≡ true
-    all n = ap (λ b. not (b && is_flagged flags n)) (le-ltb n 0 (omega arith))
-
--- a number that is not that one is left as it was
-other : (flags : List Bool) (i n : ℕ) → (n ≡ i → ⊥) → is_left flags (i + 1) n ≡ is_left flags i n
-other flags i n ne = ap (λ b. not (b && is_flagged flags n)) (⊎_elim
-    (λ low. lt-ltb n (i + 1) (omega (arith, low.1)) ∙ sym low.0)
-    (λ high. le-ltb n (i + 1) (omega (arith, high.1, ne)) ∙ sym high.0)
-    (leb_tells (suc n) i))
-
-and_true : (b : Bool) → b ≡ (b && true)
-and_true true = refl
-and_true false = refl
-
-and_false : (b : Bool) → false ≡ (b && false)
+and_false : (b : Bool) → (b && false) ≡ false
 and_false true = refl
 and_false false = refl
 
--- the number of that place is left out, where it is flagged
-left_out_too : (flags : List Bool) (i : ℕ) → is_flagged flags i ≡ true → (n : ℕ) → is_left flags (i + 1) n ≡ (is_left flags i n && is_other i n)
-left_out_too flags i flagged n = ⊎_elim
-    (λ e.
-    ap (is_left flags (i + 1)) e.1 ∙ ap₂ (λ b c. not (b && c)) (lt-ltb i (i + 1) (omega arith)) flagged ∙ and_false (is_left flags i n) ∙ ap (λ b. is_left flags i n && not b) (sym e.0))
-    (λ e. other flags i n e.1 ∙ and_true (is_left flags i n) ∙ ap (λ b. is_left flags i n && not b) (sym e.0))
-    (eqb_tells n i)
+and_true : (b : Bool) → (b && true) ≡ b
+and_true true = refl
+and_true false = refl
 
-left_still : (flags : List Bool) (i : ℕ) → is_flagged flags i ≡ false → (n : ℕ) → is_left flags (i + 1) n ≡ is_left flags i n
-left_still flags i unflagged n = ⊎_elim
-    (λ e.
-    ap (is_left flags (i + 1)) e.1 ∙ ap₂ (λ b c. not (b && c)) (lt-ltb i (i + 1) (omega arith)) unflagged ∙ sym (ap (λ b. not (b && is_flagged flags i)) (le-ltb i i (omega arith))) ∙ sym (ap (is_left flags i) e.1))
-    (λ e. other flags i n e.1)
-    (eqb_tells n i)
+-- that number is not another
+itself : (i : ℕ) → is_other i i ≡ false
+itself i = ap not (eq-eqb i i refl)
 
-pub one_left_out : {d : Derived} (flags : List Bool) {old mid new : Index} {f : Fact} (i : ℕ) → ListsThoseLeft d flags i old mid → is_flagged flags i ≡ true → slice_get d.facts i ≡ Some f → Removes mid new i f → ListsThoseLeft d flags (i + 1) old new
-one_left_out {d} flags {new = new} i left flagged at t k w m s =
-    let same = both (is_other i) (is_left flags i) (is_left flags (i + 1)) (left_out_too flags i flagged) in
-    subst (λ (v : List ℕ). ListsFacts k d v (filter (is_left flags (i + 1)) m) new) (same w)
-    (subst (λ (l : List ℕ). ListsFacts k d (without i (filter (is_left flags i) w)) l new) (same m) (removed at t (left k w m s)))
+-- those that stay without that number
+abbrev without_too : (ℕ → Bool) → ℕ → ℕ → Bool
+without_too stays i n = stays n && is_other i n
 
-pub one_left : {d : Derived} (flags : List Bool) {old new : Index} (i : ℕ) → ListsThoseLeft d flags i old new → is_flagged flags i ≡ false → ListsThoseLeft d flags (i + 1) old new
-one_left {d} flags {new = new} i left unflagged k w m s =
-    let same = filter_agree (is_left flags i) (is_left flags (i + 1)) (λ n. sym (left_still flags i unflagged n)) in
-    subst (λ (v : List ℕ). ListsFacts k d v (filter (is_left flags (i + 1)) m) new) (same w)
-    (subst (λ (l : List ℕ). ListsFacts k d (filter (is_left flags i) w) l new) (same m) (left k w m s))
+pub one_taken_out : {d : Derived} (gone : List ℕ) {old mid new : Index} {f : Fact} (i : ℕ) → AreTakenOut d gone old mid → slice_get d.facts i ≡ Some f → Removes mid new i f → AreTakenOut d (gone ++ i ∷ []) old new
+one_taken_out {d} gone {new = new} i t at removes = record {
+  stays = without_too t.stays i;
+  of = λ n. (out n, left n);
+  lists = λ k w m s.
+      let still = without_too t.stays i in
+      let same = both (is_other i) t.stays still (λ n. refl) in
+      subst (λ (v : List ℕ). ListsFacts k d v (filter still m) new) (same w)
+      (subst (λ (l : List ℕ). ListsFacts k d (without i (filter t.stays w)) l new) (same m) (removed at removes (t.lists k w m s)));
+}
+  where
+    out : (n : ℕ) → without_too t.stays i n ≡ false → Contains (gone ++ i ∷ []) n
+    out n e = ⊎_elim
+        (λ w. subst (λ (k : ℕ). Contains (gone ++ i ∷ []) k) (sym w.1) (Contains-push gone i))
+        (λ w. Contains-append_left gone (i ∷ []) n ((t.of n).0 (sym (and_true (t.stays n)) ∙ ap (λ b. t.stays n && not b) (sym w.0) ∙ e)))
+        (eqb_tells n i)
+
+    left : (n : ℕ) → Contains (gone ++ i ∷ []) n → without_too t.stays i n ≡ false
+    left n c = ⊎_elim
+        (λ there. ap (λ b. b && is_other i n) ((t.of n).1 there))
+        (λ is. subst (λ (k : ℕ). without_too t.stays i k ≡ false) is (ap (λ b. t.stays i && b) (itself i) ∙ and_false (t.stays i)))
+        (Contains-push_cases gone i n c)
 
 -- those that are left in the end are those that are not flagged
-pub all_left : {d : Derived} (flags : List Bool) {old new : Index} (i : ℕ) → length flags ≤ i → ListsThoseLeft d flags i old new → ListsThoseKept d flags old new
-all_left {d} flags {new = new} i long left k w m s =
-    let same = filter_agree (is_left flags i) (is_kept flags) here in
+pub all_taken_out : {d : Derived} (flags : List Bool) (numbers : List ℕ) {old new : Index} → AreThoseFlagged flags numbers → AreTakenOut d numbers old new → ListsThoseKept d flags old new
+all_taken_out {d} flags numbers {new = new} those t k w m s =
+    let same = filter_agree t.stays (is_kept flags) here in
     subst (λ (v : List ℕ). ListsFacts k d v (kept flags m) new) (same w)
-    (subst (λ (l : List ℕ). ListsFacts k d (filter (is_left flags i) w) l new) (same m) (left k w m s))
+    (subst (λ (l : List ℕ). ListsFacts k d (filter t.stays w) l new) (same m) (t.lists k w m s))
   where
-    here : (n : ℕ) → is_left flags i n ≡ is_kept flags n
+    here : (n : ℕ) → t.stays n ≡ is_kept flags n
     here n = ⊎_elim
-        (λ low. ap (λ b. not (b && is_flagged flags n)) low.0)
-        (λ high. ap (λ b. not (b && is_flagged flags n)) high.0 ∙ sym (ap not (get_or_past flags n false (omega (arith, long, high.1)))))
-        (leb_tells (suc n) i)
+        (λ flag. (t.of n).1 ((those n).0 flag) ∙ sym (ap not flag))
+        (λ flag. ⊎_elim
+        (λ stays. stays ∙ sym (ap not flag))
+        (λ goes. absurd (false≢true (sym flag ∙ (those n).1 ((t.of n).0 goes))))
+        (by_flag (t.stays n)))
+        (by_flag (is_flagged flags n))
 
 -- ---- the number in hand
 

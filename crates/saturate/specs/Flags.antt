@@ -1,5 +1,5 @@
 -- Numbers that are flagged.
-use Rattle.std.specs.Prelude.{◌≡◌, ℕ, Bool, true, false, not, List, [], ◌∷◌, ◌++◌, slice_index_or, Option, Some}
+use Rattle.std.specs.Prelude.{◌≡◌, ◌≢◌, ◌↔◌, ℕ, Bool, true, false, not, List, [], ◌∷◌, ◌++◌, slice_index_or, Option, Some}
 use Rattle.std.specs.List.{Contains, filter}
 use Rattle.facts.specs.declared.contexts.Fact.{Fact}
 use Rattle.facts.specs.Closure.{Problem}
@@ -23,6 +23,15 @@ kept flags numbers = filter (is_kept flags) numbers
 -- those that are
 abbrev pub asked : List Bool → List ℕ → List ℕ
 asked flags numbers = filter (is_flagged flags) numbers
+
+-- the numbers are those that are flagged
+abbrev pub AreThoseFlagged : List Bool → List ℕ → Type 0
+AreThoseFlagged flags numbers = (n : ℕ) → (is_flagged flags n ≡ true) ↔ Contains numbers n
+
+-- that number is flagged, and each other as it was
+pub record HasOneFlagMore (n : ℕ) (old new : List Bool) : Type 0 where
+  pub here : is_flagged new n ≡ true
+  pub others : (i : ℕ) → i ≢ n → is_flagged new i ≡ is_flagged old i
 
 -- the number is flagged exactly where its fact is such
 pub record IsFlagged (P : Fact → Type 0) (facts : List Fact) (flags : List Bool) (n : ℕ) : Type 0 where

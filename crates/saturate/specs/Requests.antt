@@ -74,6 +74,14 @@ Denies forms _ _ = ⊥
 abbrev pub AsksNothing : Form → Type 0
 AsksNothing form = (forms : List Form) (f : Fact) → ¬ Asks forms form f
 
+-- the form asks for no edge
+abbrev pub AsksForNoEdge : Form → Type 0
+AsksForNoEdge form = (forms : List Form) (x : Context) (p : PropId2) (y : Context) → ¬ Asks forms form (Edge x p y)
+
+-- none of the forms asks for an edge
+abbrev pub LeaveEdges : List Form → Type 0
+LeaveEdges forms = (form : Form) → Contains forms form → AsksForNoEdge form
+
 -- the form puts the property below another, or is a chain that begins with it
 abbrev pub BeginsWith : Form → PropId2 → Type 0
 BeginsWith (N5 r s) p = p ≡ Property r

@@ -8,18 +8,17 @@ ghost use Rattle.facts.specs.Closure.{thing};
 ghost use Rattle.indexes.specs.declared.keys.Key.TheVariants.{Whole};
 ghost use Rattle.indexes.specs.Keys.{by_filler, by_first, by_kind, class_key};
 ghost use Rattle.property_closure.specs.PropertyClosures.{Has};
-ghost use Rattle.saturate.specs.Requests.{AreNamed, BeginsWith, Denies, HasForm, HasUnder, IsAsked, IsAskedUnder, IsNamed, IsSuchAt, IsUnaskedUnder, LacksUnder, NamesAbove, NamesClass, NamesIndividual};
+ghost use Rattle.saturate.specs.Requests.{AreNamed, AsksForNoEdge, BeginsWith, Denies, HasForm, HasUnder, IsAsked, IsAskedUnder, IsNamed, IsSuchAt, IsUnaskedUnder, LacksUnder, LeaveEdges, NamesAbove, NamesClass, NamesIndividual};
 ghost use Rattle.inference.specs.PropertyClosures.{IsClosureOf};
 ghost use Rattle.inference.specs.Visits.{HasProperty, NoneUnder};
-ghost use Rattle.std.specs.Prelude.{◌≡◌, ◌⊎◌, ◌↔◌, ℕ, Contains, IfOk, IsTrue, List, false, true};
+ghost use Rattle.std.specs.Prelude.{◌≡◌, ◌⊎◌, ◌↔◌, ℕ, Contains, IsTrue, List, false, true};
 
-use axioms::{ExprId, IndId, Memory, PropId};
+use axioms::{ExprId, IndId, PropId};
 use facts::{Context, Fact};
 use indexes::IndexedProblem;
 use normal_forms::{Class2, Form, PropId2};
 use number_sets::Row;
 use property_closure::PropertyClosure;
-use std::alloc::Global;
 
 /// Whether there is any number.
 fn is_used(list: &[u32]) -> bool
@@ -77,20 +76,6 @@ fn asks_for_class(added: &IndexedProblem, class: Class2) -> bool
     ensures no { result ≡ false → IsNamed added.now class → ⊥ }
 {
     added.is_in_list(class) || asks_by_form(added, class)
-}
-
-/// Of the expressions below the number whether one of the added forms or lists asks for the facts of the class: a look at a bit is less
-/// than one at four lists, where there are many facts.
-pub(crate) fn named_classes(alloc: Global, added: &IndexedProblem, end: u32) -> Result<Row, Memory>
-    ensures { IfOk result (AreNamed added.now) }
-{
-    let mut classes = Row::new(alloc, end as usize)?;
-    for number in 0..end {
-        if asks_for_class(added, Class2::Expr(ExprId(number))) {
-            classes.put(number as usize);
-        }
-    }
-    Ok(classes)
 }
 
 /// Whether one of the added forms or lists asks for the facts of a class, of which these are told.
@@ -278,21 +263,46 @@ fn asks_for_edge(
         || asks_for_denied(added, closure, source, property, target)
 }
 
-/// Whether one of the added forms or lists asks for the fact. Of some classes it is told whether one asks for them; the closure is that of
-/// all forms.
+/// Whether a form of this kind may ask for edges.
+fn may_ask_for_edges(form: Form) -> bool
+    ensures { result ≡ false → AsksForNoEdge form }
+{
+    matches!(
+        form,
+        Form::N5(..) | Form::N6(..) | Form::N10(..) | Form::N12(..)
+    )
+}
+
+/// Whether one of the added forms may ask for edges.
+pub(crate) fn may_ask_for_some_edges(added: &IndexedProblem) -> bool
+    ensures { result ≡ false → LeaveEdges added.now.forms }
+{
+    for number in 0..added.forms().len() {
+        if may_ask_for_edges(added.forms().at(number)) {
+            return true;
+        }
+    }
+    false
+}
+
+/// Whether one of the added forms or lists asks for the fact. Of some classes it is told whether one asks for them, and whether any may
+/// ask for edges; the closure is that of all forms.
 pub(crate) fn asks_for(
     added: &IndexedProblem,
     classes: &Row,
+    edges: bool,
     closure: &PropertyClosure,
     fact: Fact,
 ) -> bool
     requires named { AreNamed added.now classes.now }
+    requires edges { edges ≡ false → LeaveEdges added.now.forms }
     requires property { HasProperty closure.now fact }
     ensures yes { result ≡ true → IsAskedUnder closure.now added.now fact }
     ensures no { result ≡ false → IsUnaskedUnder closure.now added.now fact }
 {
     match fact {
         Fact::In(class, context) => asks_for_member(added, classes, class, context),
+        Fact::Edge(..) if !edges => false,
         Fact::Edge(source, property, target) => {
             asks_for_edge(added, closure, source, property, target)
         }

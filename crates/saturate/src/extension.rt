@@ -12,11 +12,13 @@ ghost use Rattle.inference.specs.Completeness.{AreEntered, IsCompleteUpToRedunda
 ghost use Rattle.inference.specs.Draws.{Draws};
 ghost use Rattle.std.specs.Prelude.{◌≡◌, ◌<◌, ◌≤◌, ◌++◌, ℕ, Contains, List, IfOk, OnErr, OnOk, Some, length, take, true};
 
-use crate::additions::{asks_for, named_classes};
+use crate::additions::{asks_for, may_ask_for_some_edges};
+use crate::flags::Flags;
 use crate::ground::Ground;
+use crate::named_classes::named_classes;
 use crate::new_forms::new_forms;
 use crate::new_lists::new_lists;
-use crate::queue::{Queue, has_flag};
+use crate::queue::Queue;
 use axioms::Memory;
 use facts::Fact;
 use indexes::{Index, IndexedProblem};
@@ -31,17 +33,20 @@ fn flagged(
     ground: &Ground,
     added: &IndexedProblem,
     facts: &KnownFacts,
-) -> Result<Vec<bool>, Memory>
+) -> Result<Flags, Memory>
     requires { IsDerived ground.now facts.now }
-    ensures few { IfOk result (λ flags. length flags.items ≤ length facts.now.facts) }
-    ensures flags { IfOk result (λ flags. (n : ℕ) → n < length facts.now.facts → IsFlagged (IsAsked ground.now.forms added.now) facts.now.facts flags.items n) }
+    ensures few { IfOk result (λ flags. length flags ≤ length facts.now.facts) }
+    ensures flags { IfOk result (λ flags. (n : ℕ) → n < length facts.now.facts → IsFlagged (IsAsked ground.now.forms added.now) facts.now.facts flags n) }
 {
     let closure = ground.closure();
     let end = expected_contexts(ground.problem()).min(u32::MAX as usize) as u32;
     let classes = named_classes(alloc, added, end)?;
-    let mut flags = Vec::with_capacity(alloc, facts.len())?;
-    for fact in facts.as_slice() {
-        flags.push_reserved(asks_for(added, &classes, closure, fact.get()));
+    let edges = may_ask_for_some_edges(added);
+    let mut flags = Flags::new(alloc, facts.len())?;
+    for place in 0..facts.len() as u32 {
+        if asks_for(added, &classes, edges, closure, facts.get(place)) {
+            flags.add(place)?;
+        }
     }
     Ok(flags)
 }
@@ -54,16 +59,16 @@ fn flags_of(
     from: usize,
     facts: &KnownFacts,
     served: &[u32],
-) -> Result<Vec<bool>, Memory>
+) -> Result<Flags, Memory>
     requires earlier { take from ground.now.forms ≡ earlier.now.forms }
     requires lists { AreContinuedBy earlier.now.apart ground.now.apart }
     requires derived { IsDerived ground.now facts.now }
     requires served { (n : ℕ) → Contains served.now n → n < length facts.now.facts }
-    ensures few { IfOk result (λ flags. length flags.items ≤ length facts.now.facts) }
-    ensures flags { IfOk result (λ flags. (n : ℕ) → Contains served.now n → IsFlagged (IsAskedAnew earlier.now ground.now) facts.now.facts flags.items n) }
+    ensures few { IfOk result (λ flags. length flags ≤ length facts.now.facts) }
+    ensures flags { IfOk result (λ flags. (n : ℕ) → Contains served.now n → IsFlagged (IsAskedAnew earlier.now ground.now) facts.now.facts flags n) }
 {
     if served.is_empty() {
-        return Ok(Vec::new(alloc));
+        return Flags::new(alloc, 0);
     }
     let forms = new_forms(alloc, earlier, ground.problem().forms(), from)?;
     let apart = new_lists(alloc, earlier.apart(), ground.problem().apart())?;
@@ -79,13 +84,13 @@ fn index_kept(
     ground: &Ground,
     facts: &KnownFacts,
     number: u32,
-    flags: &[bool],
+    flags: &Flags,
 ) -> Result<(), Memory>
     requires derived { IsDerived ground.now facts.now }
     requires number { number < length facts.now.facts }
     ensures { OnOk result (ListsUnlessFlagged ground.now facts.now flags.now number index.old index.new) }
 {
-    if has_flag(flags, number) {
+    if flags.has(number) {
         return Ok(());
     }
     let problem = ground.problem();
@@ -120,7 +125,7 @@ fn indexed(
     ground: &Ground,
     facts: &KnownFacts,
     numbers: &[u32],
-    flags: &[bool],
+    flags: &Flags,
 ) -> Result<Index, Memory>
     requires derived { IsDerived ground.now facts.now }
     requires numbers { (n : ℕ) → Contains numbers.now n → n < length facts.now.facts }
@@ -153,7 +158,7 @@ fn begun_again<W: WorkList>(
     ground: &Ground,
     facts: &mut KnownFacts,
     queue: &mut Queue<W>,
-    flags: &[bool],
+    flags: &Flags,
     entered: Option<usize>,
 ) -> Result<(), Memory>
     requires derived { IsDerived ground.now facts.old }
@@ -197,7 +202,7 @@ fn listed_anew<W: WorkList>(
     facts: &mut KnownFacts,
     queue: &mut Queue<W>,
     index: &mut Index,
-    flags: &[bool],
+    flags: &Flags,
 ) -> Result<(), Memory>
     requires derived { IsDerived ground.now facts.old }
     requires turns { HaveTurns facts.old.facts queue.old }
@@ -249,12 +254,12 @@ fn listed_beside(index: &Index, fact: Fact) -> usize {
 }
 
 /// How many numbers are looked at where the facts that are flagged are taken out. It decides nothing.
-fn looked_at(index: &Index, facts: &KnownFacts, flags: &[bool]) -> usize {
+fn looked_at(index: &Index, facts: &KnownFacts, flags: &Flags) -> usize
+    requires { length flags.now ≤ length facts.now.facts }
+{
     let mut numbers: usize = 0;
-    for place in 0..facts.len() as u32 {
-        if has_flag(flags, place) {
-            numbers = numbers.saturating_add(listed_beside(index, facts.get(place)));
-        }
+    for number in flags.numbers() {
+        numbers = numbers.saturating_add(listed_beside(index, facts.get(*number)));
     }
     numbers
 }
@@ -263,19 +268,17 @@ fn looked_at(index: &Index, facts: &KnownFacts, flags: &[bool]) -> usize {
 const LOOKS_FOR_A_FACT: usize = 4;
 
 /// Takes the facts that are flagged out of the index.
-fn remove_flagged(index: &mut Index, facts: &KnownFacts, flags: &[bool])
+fn remove_flagged(index: &mut Index, facts: &KnownFacts, flags: &Flags)
     requires { length flags.now ≤ length facts.now.facts }
     ensures { ListsThoseKept facts.now flags.now index.old index.new }
 {
-    for place in 0..facts.len() as u32 {
-        if has_flag(flags, place) {
-            index.remove(place, facts.get(place));
-        }
+    for number in flags.numbers() {
+        index.remove(*number, facts.get(*number));
     }
 }
 
 /// Takes the facts that are flagged and the one in hand out of the index.
-fn remove_pending(index: &mut Index, facts: &KnownFacts, flags: &[bool], hand: Option<u32>)
+fn remove_pending(index: &mut Index, facts: &KnownFacts, flags: &Flags, hand: Option<u32>)
     requires flags { length flags.now ≤ length facts.now.facts }
     requires hand { (n : ℕ) → hand ≡ Some n → n < length facts.now.facts }
     ensures { ListsServedStill facts.now flags.now hand index.old index.new }
@@ -294,7 +297,7 @@ fn listed_still<W: WorkList>(
     facts: &mut KnownFacts,
     queue: &mut Queue<W>,
     index: &mut Index,
-    flags: &[bool],
+    flags: &Flags,
     entered: usize,
 ) -> Result<(), Memory>
     requires derived { IsDerived ground.now facts.old }

@@ -1,8 +1,9 @@
 //! Whose turn it is.
 ghost use Rattle.std.specs.Prelude.{◌≡◌, ◌<◌, ◌≤◌, ◌^◌, ◌+◌, ◌++◌, [], ℕ, None, Some, length, take, Contains, OnOk, OnErr, IfOk};
-ghost use Rattle.saturate.specs.Flags.{asked, is_flagged, kept};
+ghost use Rattle.saturate.specs.Flags.{asked, kept};
 ghost use Rattle.saturate.specs.Turns.{option_list, AreAmong, HasOneMore, HasTurn, IsServedOnce, IsWithoutHand, IsWithoutLast, NameTheirContexts};
 
+use crate::flags::Flags;
 use crate::order::{context_of, next};
 use axioms::Memory;
 use facts::StoredFact;
@@ -31,30 +32,18 @@ impl<W: WorkList> Model for Queue<W> {
     ghost invariant = { λ q. IsQueue (W.pending q.list) q.queued q.taken.items q.served };
 }
 
-/// Whether the number is flagged: past the end it is not.
-pub(crate) fn has_flag(flags: &[bool], number: u32) -> bool
-    ensures { result ≡ is_flagged flags.now number }
-{
-    let place = number as usize;
-    if place < flags.len() {
-        flags[place]
-    } else {
-        false
-    }
-}
-
 /// Adds those of the numbers that are not flagged to the one list, and those that are to the other.
 fn part(
     still: &mut Vec<u32>,
     again: &mut Vec<u32>,
     numbers: &[u32],
-    flags: &[bool],
+    flags: &Flags,
 ) -> Result<(), Memory>
     ensures still { OnOk result (still.new.items ≡ still.old.items ++ kept flags.now numbers.now) }
     ensures again { OnOk result (again.new.items ≡ again.old.items ++ asked flags.now numbers.now) }
 {
     for number in numbers {
-        if has_flag(flags, *number) {
+        if flags.has(*number) {
             again.push(*number)?;
         } else {
             still.push(*number)?;
@@ -72,7 +61,7 @@ struct Turns {
 
 impl Turns {
     /// The same numbers, of which those that were served and are flagged wait again, behind those that are served still.
-    fn of(alloc: Global, served: &[u32], rest: &[u32], flags: &[bool]) -> Result<Turns, Memory>
+    fn of(alloc: Global, served: &[u32], rest: &[u32], flags: &Flags) -> Result<Turns, Memory>
         ensures taken { IfOk result (λ t. t.taken.items ≡ kept flags.now served.now ++ asked flags.now served.now ++ rest.now) }
         ensures served { IfOk result (λ t. t.served ≡ length (kept flags.now served.now)) }
     {
@@ -301,12 +290,15 @@ impl<W: WorkList> Queue<W> {
     }
 
     /// Numbers that were served and are flagged wait again.
-    pub(crate) fn unserve(&mut self, alloc: Global, flags: &[bool]) -> Result<(), Memory>
+    pub(crate) fn unserve(&mut self, alloc: Global, flags: &Flags) -> Result<(), Memory>
         ensures queued { self.new.queued ≡ self.old.queued }
         ensures waiting { self.new.waiting ≡ self.old.waiting }
         ensures ok { OnOk result (self.new.served ≡ kept flags.now self.old.served) }
         ensures err { OnErr result (self.new ≡ self.old) }
     {
+        if flags.are_none() {
+            return Ok(());
+        }
         let (served, rest) = self.taken.split_at(self.served);
         let turns = Turns::of(alloc, served, rest, flags)?;
         self.taken = turns.taken;

@@ -11,23 +11,22 @@ flags_of-requires-clause-served g c = λ n there. c.requires.turns.served n (rw 
 pub listed_still-requires-clause-listed : goal.listed_still-requires-clause-listed
 listed_still-requires-clause-listed g c =
     let served : List ℕ = c.args.queue.now.served in
-    let flags = c.in_ok-flags.flags.items in
-    rw c.deref-then-looked_at-few.ensures.value
-    (listed_then c.args.from c.requires.grown (rw (c.forms.ensures, c.problem.ensures) at c.leave_properties-leaves.ensures c.if-leaves.true) (kept flags served)
+    let flags = c.in_ok-flags.flags in
+    listed_then c.args.from c.requires.grown (rw (c.forms.ensures, c.problem.ensures) at c.leave_properties-leaves.ensures c.if-leaves.true) (kept flags served)
     (keeps_served c.args.earlier.now c.args.ground.now c.args.facts.now.facts flags served (λ n there. c.in_ok-flags.ensures.flags n (rw c.numbers.ensures there)))
-    c.requires.listed)
+    c.requires.listed
 
 pub returns-then-looked_at-few-clause-served : goal.returns-then-looked_at-few-clause-served
 returns-then-looked_at-few-clause-served g c =
     on_ok_weaker c.listed_still.result
-    (λ is. keeps_served_then c.args.earlier.now c.args.ground.now c.args.facts.now.facts c.in_ok-flags.flags.items c.deref-then-looked_at-few.result.now c.args.queue.now.served c.listed_still.new.queue.served c.deref-then-looked_at-few.ensures.value is
+    (λ is. keeps_served_then c.args.earlier.now c.args.ground.now c.args.facts.now.facts c.in_ok-flags.flags c.args.queue.now.served c.listed_still.new.queue.served is
     (λ n there. c.in_ok-flags.ensures.flags n (rw c.numbers.ensures there)))
     c.listed_still.ensures.served
 
 pub returns-clause-served : goal.returns-clause-served
 returns-clause-served g c =
     on_ok_weaker c.listed_anew.result
-    (λ is. keeps_served_then c.args.earlier.now c.args.ground.now c.args.facts.now.facts c.in_ok-flags.flags.items c.deref-2.result.now c.args.queue.now.served c.listed_anew.new.queue.served c.deref-2.ensures.value is
+    (λ is. keeps_served_then c.args.earlier.now c.args.ground.now c.args.facts.now.facts c.in_ok-flags.flags c.args.queue.now.served c.listed_anew.new.queue.served is
     (λ n there. c.in_ok-flags.ensures.flags n (rw c.numbers.ensures there)))
     c.listed_anew.ensures.served
 

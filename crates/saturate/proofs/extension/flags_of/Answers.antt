@@ -17,7 +17,7 @@ returns-clause-flags c =
     let facts = c.args.facts.now.facts in
     IfOk-weaker c.flagged-flags.result _ _
     (λ flags each n there.
-    flagged_too (IsAsked now.forms added) (IsAskedAnew before now) facts flags.items n
+    flagged_too (IsAsked now.forms added) (IsAskedAnew before now) facts flags n
     (asked_as_new before now added
     (subst (λ (fs : List Form). (f : Fact) → IsAskedByForm now.forms fs f ↔ NewFormAsks before.forms now.forms f) (sym c.in_ok-added.ensures.forms) (rw (c.forms.ensures, c.problem.ensures) at c.in_ok-forms.ensures))
     (subst (λ (ls : ApartLists). (cs : List ExprId) → Contains ls.classes cs ↔ IsNew before.apart.classes now.apart.classes cs) (sym c.in_ok-added.ensures.apart) (rw (c.apart.ensures, c.apart-2.ensures, c.problem-2.ensures) at c.in_ok-apart.ensures.classes)))

@@ -1,5 +1,6 @@
-use Rattle.saturate.proofs.Removing.{ListsThoseLeft}
+use Rattle.std.proofs.Common.{take}
+use Rattle.saturate.proofs.Removing.{AreTakenOut}
 use Rattle.saturate.proofs.extension.remove_flagged.Given as goal
 
-abbrev pub invariant-loop-place : goal.invariant-loop-place
-invariant-loop-place l = ListsThoseLeft l.facts l.flags l.place l.fn.index l.index
+abbrev pub invariant-loop-number : goal.invariant-loop-number
+invariant-loop-number l = AreTakenOut l.facts (take l.number-index l.number-items) l.fn.index l.index

@@ -1,5 +1,10 @@
+use Rattle.std.proofs.Common.{sym}
+use Rattle.saturate.proofs.Flagging.{all_kept}
 use Rattle.saturate.proofs.Turns.{turned_back}
 use Rattle.saturate.proofs.queue.Queue.unserve.Goals as goal
+
+pub returns-then-are_none-clause-ok : goal.returns-then-are_none-clause-ok
+returns-then-are_none-clause-ok g c = sym (all_kept c.args.flags.now (c.are_none.ensures c.if-are_none.true) c.args.self.now.served)
 
 pub invariant_of-self : goal.invariant_of-self
 invariant_of-self g c =
