@@ -1,10 +1,10 @@
 -- Forms that stand in lists with what they lead to.
-use Rattle.std.proofs.Common.{◌≡◌, ◌↔◌, ℕ, ◌+◌, ◌-◌, ◌<◌, List, [], ◌∷◌, ◌++◌, length, take, drop, get_or, slice_get, slice_index, Option, Contains, refl, sym, ap, subst, ⊎_elim, ◌∙◌}
-use Rattle.std.proofs.lemmas.List.{drop-map, length-map, map-append, take-map}
+use Rattle.std.proofs.Common.{◌≡◌, ◌↔◌, ℕ, ◌+◌, ◌-◌, ◌<◌, List, [], ◌∷◌, ◌++◌, length, take, drop, get_or, slice_get, slice_index, Option, Contains, refl, sym, ap, subst, ⊎_elim, ◌∙◌, arith}
+use Rattle.std.proofs.lemmas.List.{get_or_default, drop-map, length-map, map-append, take-map}
 use Rattle.std.proofs.lemmas.List.Elements.{Contains-push_cases}
 use Rattle.std.proofs.lemmas.Option.{none-some, slice_get-get_or}
-use Rattle.lemmas.proofs.Members.{Contains-from_slice_get}
-use Rattle.lemmas.proofs.Places.{take_push}
+use Rattle.lemmas.proofs.Members.{Contains-from_slice_get, Contains-none}
+use Rattle.lemmas.proofs.Places.{take_push, take_slice_get}
 use Rattle.normal_forms.specs.declared.forms.Form.{Form}
 use Rattle.indexes.specs.declared.key_lists.KeyLists.{KeyLists}
 use Rattle.indexes.specs.declared.keys.Key.{Key}
@@ -14,7 +14,7 @@ use Rattle.indexes.specs.declared.listed_forms.ListedForms.{ListedForms}
 use Rattle.indexes.specs.FormIndex.{at_key, ListsNothing, ListsNumbers}
 use Rattle.indexes.specs.FormsUnderKeys.{IsUnder}
 use Rattle.indexes.specs.Lists.{list_at}
-use Rattle.indexes.specs.ListedForms.{forms_at_key, number_of, AreLedBy, AreListedForms, AreOf, SaysItsForm}
+use Rattle.indexes.specs.ListedForms.{forms_at_key, number_of, AreLedBy, AreListedForms, AreOf, SaysItsForm, SayTheirForms}
 use Rattle.indexes.proofs.Listing.{unlisted}
 use Rattle.indexes.proofs.Sides.{from_piece}
 
@@ -26,6 +26,17 @@ one_more forms numbers i listed l low is says before = record {
       ∙ sym (take_push numbers i (get_or numbers i 0) (slice_get-get_or numbers i 0 low));
   say = λ m c. ⊎_elim (λ there. before.say m there) (λ same. subst (SaysItsForm forms) same says) (Contains-push_cases listed l m c);
 }
+
+-- of no number no form is listed
+pub of_none : (forms : List Form) (listed : List ListedForm) → listed ≡ [] → AreOf forms [] listed
+of_none forms listed is = rw is (record { numbers_are = refl; say = λ l c. absurd (Contains-none l c) })
+
+-- what is said of the first forms is said of all
+pub said : (forms : List Form) (end : ℕ) (listed : List ListedForm) (place number : ℕ) (d : ListedForm) → place < length listed → (get_or listed place d).number ≡ number → number < end → SayTheirForms (take end forms) listed
+    → SaysItsForm forms (get_or listed place d)
+said forms end listed place number d low is below say form at =
+    let l = get_or listed place d in
+    say l (place, low, get_or_default listed place l d low) form (take_slice_get end forms l.number form (omega (arith, is, below)) at)
 
 -- the forms of one list
 list_of : (starts : List ℕ) (forms : List Form) (numbers : List ℕ) (listed : List ListedForm) (k : ℕ) → AreOf forms numbers listed → AreOf forms (list_at starts numbers k) (list_at starts listed k)

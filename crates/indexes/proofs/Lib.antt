@@ -15,3 +15,8 @@ pub mod Grouping
 pub mod Order
 pub mod Keyed
 pub mod Led
+pub mod Shifting
+pub mod Reaching
+pub mod Inserting
+pub mod Putting
+pub mod Extending

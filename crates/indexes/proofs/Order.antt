@@ -60,7 +60,7 @@ those_at forms xs rest a s t is ls lt at_a at_b =
 
 -- ---- one list put into order, among lists in one piece
 
-rise : (starts xs : List ℕ) → IsWithin starts xs → (i j : ℕ) → i ≤ j → j < length starts → slice_index starts i ≤ slice_index starts j
+pub rise : (starts xs : List ℕ) → IsWithin starts xs → (i j : ℕ) → i ≤ j → j < length starts → slice_index starts i ≤ slice_index starts j
 rise starts xs within i zero le low = let e : i ≡ 0 = omega (arith, le) in rw e (omega arith)
 rise starts xs within i (suc j) le low = elim (cases_lt j i) [
   | inl m ↦ (let e : i ≡ suc j = omega (arith, le, m) in rw e (omega arith))

@@ -15,3 +15,4 @@ pub mod Apart
 pub mod FormIndex
 pub mod Groups
 pub mod Roots
+pub mod Insertions

@@ -1,5 +1,5 @@
 //! A problem whose forms are found by key.
-ghost use Rattle.std.specs.Prelude.{◌≡◌, ◌<◌, ◌↔◌, ◌⊎◌, ◌++◌, [], ℕ, Contains, IfOk, IfSome, IsNone, false, slice_get, true};
+ghost use Rattle.std.specs.Prelude.{◌≡◌, ◌<◌, ◌↔◌, ◌⊎◌, ◌++◌, [], ℕ, Contains, IfOk, IfSome, IsNone, false, length, slice_get, take, true};
 ghost use Rattle.axioms.specs.declared.ids.ExprId.{ExprId as ExprId2};
 ghost use Rattle.normal_forms.specs.declared.forms.Class2.{Class2 as Class3};
 ghost use Rattle.normal_forms.specs.declared.forms.Class2.TheVariants as classes;
@@ -15,6 +15,7 @@ ghost use Rattle.indexes.specs.ListedForms.{AreLedBy};
 use crate::apart::Apart;
 use crate::disjoint::Disjointness;
 use crate::form_index::{listed, nothing_listed};
+use crate::grown_index::listed_more;
 use crate::key_lists::KeyLists;
 use crate::keys::Key;
 use crate::listed_forms::{ListedForm, ListedForms};
@@ -81,6 +82,9 @@ impl Model for IndexedProblem {
     ghost invariant = { λ p. IsIndexed p.forms p.apart.classes p.disjoint p.index p.alone p.fillers };
 }
 
+/// Up to how many new forms are put into the lists one by one, each of which moves what stands behind it. It decides nothing.
+const FEW_FORMS: usize = 64;
+
 /// The contexts of the first list, and then those of the second.
 fn joined(alloc: Global, first: &[Context], second: &[Context]) -> Result<Vec<Context>, AllocError>
     ensures { IfOk result (λ all. all.items ≡ first.now ++ second.now) }
@@ -110,22 +114,43 @@ impl IndexedProblem {
         }
     }
 
-    /// The problem of these forms and lists, with these contexts behind its own; the problem itself stays. The memory of a list of forms
-    /// that is shared already is shared. Fails where memory is refused, and where there are 2^32 forms, lists or members of lists.
-    pub fn grown(
+    /// The problem of these forms, which begin with its own, and lists, with these contexts behind its own; the problem itself stays. The
+    /// memory of a list of forms that is shared already is shared. Fails where memory is refused, and where there are 2^32 forms, lists
+    /// or members of lists.
+    pub fn continued(
         &self,
         forms: &FormList,
         apart: &ApartLists,
         roots: &[Context],
     ) -> Result<Self, AllocError>
+        requires { take (length self.now.forms) forms.now ≡ self.now.forms }
         ensures forms { IfOk result (λ p. p.forms ≡ forms.now) }
         ensures apart { IfOk result (λ p. p.apart ≡ apart.now) }
         ensures roots { IfOk result (λ p. p.roots ≡ self.now.roots ++ roots.now) }
     {
+        let from = self.forms.len();
         let forms = forms.copy()?;
         let apart = apart.copy(self.alloc)?;
         let roots = joined(self.alloc, &self.roots, roots)?;
-        IndexedProblem::new(self.alloc, forms, apart, roots)
+        if forms.len().saturating_sub(from) > FEW_FORMS || forms.len() > u32::MAX as usize {
+            return IndexedProblem::new(self.alloc, forms, apart, roots);
+        }
+        let disjoint = Disjointness::of(self.alloc, &apart.classes)?;
+        let index = listed_more(self.alloc, &self.index, &forms, from)?;
+        let alone = self.alone.again(self.alloc, &forms, &index.alone, from)?;
+        let fillers = self
+            .fillers
+            .again(self.alloc, &forms, &index.fillers, from)?;
+        Ok(IndexedProblem {
+            alloc: self.alloc,
+            forms,
+            apart,
+            roots,
+            disjoint,
+            index,
+            alone,
+            fillers,
+        })
     }
 
     /// The problem of these forms, lists and roots. Fails where memory is refused, and where there are 2^32 forms, lists or members of

@@ -45,7 +45,7 @@ fn starts_of(alloc: Global, counts: &[u32]) -> Result<Vec<u32>, AllocError>
 }
 
 /// The last of the numbers, and 0 where there is none.
-fn last_of(numbers: &[u32]) -> usize
+pub(crate) fn last_of(numbers: &[u32]) -> usize
     ensures { result ≡ slice_index numbers.now (length numbers.now - 1) }
 {
     match numbers.last() {

@@ -1,5 +1,6 @@
 //! Forms of one key, in the order of their second keys.
 ghost use Rattle.std.specs.Prelude.{◌≡◌, ◌≤◌, ◌<◌, ◌↔◌, ℕ, Contains, false, length, nat_lt, true};
+ghost use Rattle.std.specs.List.{insert};
 ghost use Rattle.std.specs.List.Sorted.{IsPartitionPoint, IsPermutation};
 ghost use Rattle.indexes.specs.Seconds.{rank, rank_at, second_key, IsInOrder};
 
@@ -32,7 +33,8 @@ fn rank_of(key: Key) -> u64
 
 /// That of the second key of the form of the number.
 fn rank_of_second(forms: &FormList, number: u32) -> u64
-    ensures { result ≡ rank_at forms.now number }
+    ensures rank { result ≡ rank_at forms.now number }
+    ensures low { result < u64.MAX }
 {
     match forms.get(number as usize) {
         Some(form) => rank_of(second_of(form)),
@@ -64,6 +66,15 @@ fn count_below(forms: &FormList, numbers: &[u32], bound: u64) -> usize
             ensures { result ≡ nat_lt (rank_at forms.entry.now number.now) bound }
         { rank_of_second(forms, *number) < bound },
     )
+}
+
+/// Behind how many of the numbers, which are in order, that of a form stands in order too.
+pub(crate) fn place_of(forms: &FormList, numbers: &[u32], number: u32) -> usize
+    requires { IsInOrder forms.now numbers.now }
+    ensures within { result ≤ length numbers.now }
+    ensures order { IsInOrder forms.now (insert numbers.now result number) }
+{
+    count_below(forms, numbers, rank_of_second(forms, number) + 1)
 }
 
 /// Those of the numbers, which are in order, that have that second key.

@@ -1,0 +1,5 @@
+use Rattle.indexes.specs.Insertions.{AreIndexedTo}
+use Rattle.indexes.proofs.grown_index.listed_more.Given as goal
+
+abbrev pub invariant-loop-number : goal.invariant-loop-number
+invariant-loop-number l = AreIndexedTo l.forms l.number l.index

@@ -1,0 +1,65 @@
+-- Numbers that are put into lists.
+use Rattle.std.specs.Prelude.{◌≡◌, ℕ, ◌≤◌, List, length, take, slice_get, Option, Some, None}
+use Rattle.std.specs.List.{insert}
+use Rattle.normal_forms.specs.declared.forms.Form.{Form}
+use Rattle.indexes.specs.declared.keys.Key.{Key}
+use Rattle.indexes.specs.declared.key_lists.KeyLists.{KeyLists}
+use Rattle.indexes.specs.declared.lists.Lists.{Lists}
+use Rattle.indexes.specs.declared.roles.ByRole.{ByRole}
+use Rattle.indexes.specs.FormIndex.{at_key, Ascend, AreInOrder, ListsNumbers}
+use Rattle.indexes.specs.Keys.{by_kind, by_alone, by_first, by_second, by_filler, by_chain, by_end, by_plain, by_linked_first, by_linked_second, by_denied}
+use Rattle.indexes.specs.Lists.{list_at}
+use Rattle.indexes.specs.Roles.{ForEach}
+
+-- the lists have the same numbers
+pub record AreTheSame (old new : Lists) : Type 0 where
+  pub starts : new.starts.items ≡ old.starts.items
+  pub numbers : new.numbers.items ≡ old.numbers.items
+
+-- the number stands in the list of the key behind so many others, and the other lists are what they were
+pub record PutsIn (old new : Lists) (key many number : ℕ) : Type 0 where
+  pub here : list_at new.starts.items new.numbers.items key ≡ insert (list_at old.starts.items old.numbers.items key) many number
+  pub elsewhere : (k : ℕ) → (k ≡ key → ⊥) → list_at new.starts.items new.numbers.items k ≡ list_at old.starts.items old.numbers.items k
+
+-- .. among lists of both kinds of keys
+pub record PutsUnder (old new : KeyLists) (key : Key) (many number : ℕ) : Type 0 where
+  pub within : many ≤ length (at_key old key)
+  pub here : at_key new key ≡ insert (at_key old key) many number
+  pub elsewhere : (k : Key) → (k ≡ key → ⊥) → at_key new k ≡ at_key old k
+
+-- the number is the last of the list of the key, if there is a key
+abbrev pub AddsLast : KeyLists → KeyLists → Option Key → ℕ → Type 0
+AddsLast old new None number = new ≡ old
+AddsLast old new (Some k) number = PutsUnder old new k (length (at_key old k)) number
+
+-- it has its place in the order of the second keys of the forms there, if there is a key
+abbrev pub AddsInOrder : List Form → KeyLists → KeyLists → Option Key → ℕ → Type 0
+AddsInOrder forms old new None number = new ≡ old
+AddsInOrder forms old new (Some k) number = ((many : ℕ) × PutsUnder old new k many number) × AreInOrder forms new
+
+-- the lists that are found by a second key too are in its order
+pub record AreOrdered (forms : List Form) (index : ByRole KeyLists) : Type 0 where
+  pub fillers : AreInOrder forms index.fillers
+  pub chains : AreInOrder forms index.chains
+  pub denied : AreInOrder forms index.denied
+
+-- the number of a form is added to the list of each key that the form has
+pub record AddsForm (forms : List Form) (old new : ByRole KeyLists) (form : Form) (number : ℕ) : Type 0 where
+  pub kinds : AddsLast old.kinds new.kinds (by_kind form) number
+  pub alone : AddsLast old.alone new.alone (by_alone form) number
+  pub first : AddsLast old.first new.first (by_first form) number
+  pub second : AddsLast old.second new.second (by_second form) number
+  pub fillers : AddsInOrder forms old.fillers new.fillers (by_filler form) number
+  pub chains : AddsInOrder forms old.chains new.chains (by_chain form) number
+  pub ends : AddsLast old.ends new.ends (by_end form) number
+  pub plain : AddsLast old.plain new.plain (by_plain form) number
+  pub linked_first : AddsLast old.linked_first new.linked_first (by_linked_first form) number
+  pub linked_second : AddsLast old.linked_second new.linked_second (by_linked_second form) number
+  pub denied : AddsInOrder forms old.denied new.denied (by_denied form) number
+
+-- the first so many of the forms are listed, those that have an order in the order of all
+pub record AreIndexedTo (forms : List Form) (many : ℕ) (index : ByRole KeyLists) : Type 0 where
+  pub listed : ForEach (λ key lists. ListsNumbers key (slice_get (take many forms)) lists) index
+  pub first_ascends : Ascend index.first
+  pub second_ascends : Ascend index.second
+  pub ordered : AreOrdered forms index
