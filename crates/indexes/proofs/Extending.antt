@@ -138,8 +138,8 @@ whole_order : (key : Form → Option Key) (forms : List Form) (n : ℕ) (lists :
 whole_order key forms n lists listed order k i j d le low =
     let xs = at_key lists k in
     let rank_is : (i : ℕ) → i < length xs → rank_at (take n forms) (get_or xs i d) ≡ rank_at forms (get_or xs i d) = λ i l.
-        let w = (listed k (get_or xs i d)).0 (i, l, get_or_default xs i (get_or xs i d) d l) in
-        ap form_rank (w.1 ∙ sym (slice_get_take n forms (get_or xs i d) w.0 w.1).1) in
+    let w = (listed k (get_or xs i d)).0 (i, l, get_or_default xs i (get_or xs i d) d l) in
+    ap form_rank (w.1 ∙ sym (slice_get_take n forms (get_or xs i d) w.0 w.1).1) in
     omega (arith, order k i j d le low, rank_is i (omega (arith, le, low)), rank_is j low)
 
 -- copies of the lists list the same

@@ -82,7 +82,7 @@ resized old new n many end counted long more is e =
     let rest = length-replicate (n - length old) end in
     let whole : length new ≡ n = ap length as_joined ∙ length-append old (replicate (n - length old) end) ∙ omega (arith, rest, long) in
     let behind : (k : ℕ) → length old ≤ k → k < n → slice_index new k ≡ end = λ k high low.
-        ap (λ (xs : List ℕ). slice_index xs k) as_joined ∙ get_or-append_right old (replicate (n - length old) end) (length old) k 0 refl high ∙ get_or-replicate (n - length old) (k - length old) end 0 (omega (arith, high, low)) in
+    ap (λ (xs : List ℕ). slice_index xs k) as_joined ∙ get_or-append_right old (replicate (n - length old) end) (length old) k 0 refl high ∙ get_or-replicate (n - length old) (k - length old) end 0 (omega (arith, high, low)) in
     record {
       some = λ none k.
           let zero_end : end ≡ 0 = is ∙ get_or_past old (length old - 1) 0 (omega (arith, none)) in

@@ -55,7 +55,9 @@ fn add(
         Form::N4(_, a, _) => index.fillers.put_in_place(forms, key_of_class(a), number),
         Form::N5(r, _) => index.plain.push(Key::Whole(r.0), number),
         Form::N6(r, s, _) => {
-            index.chains.put_in_place(forms, key_of_property(r), number)?;
+            index
+                .chains
+                .put_in_place(forms, key_of_property(r), number)?;
             index.ends.push(key_of_property(s), number)
         }
         Form::N7(_) => index.kinds.push(Key::Whole(1), number),

@@ -16,12 +16,11 @@ pub loop-number-preserved : goal.loop-number-preserved
 loop-number-preserved c =
     let forms = c.args.forms.now in
     let numbers = c.args.numbers.now in
-    let i = c.loop-number.number-index in
-    (
+    let i = c.loop-number.number-index in (
       ap (λ (bor : Bor (List ListedForm)). bor.now) c.next_form-form.ensures.listed ∙ c.loop-number.invariant.0,
       c.next_form-form.ensures.end ∙ c.loop-number.invariant.1,
       subst (AreOf forms (take (i + 1) numbers)) (sym c.in_ok-push.ensures.items)
-      (one_more forms numbers i c.loop-number.all.items c.next_form-form.result c.loop-number-test.true c.next_form-form.ensures.number c.next_form-form.ensures.says c.loop-number.invariant.2),
+          (one_more forms numbers i c.loop-number.all.items c.next_form-form.result c.loop-number-test.true c.next_form-form.ensures.number c.next_form-form.ensures.says c.loop-number.invariant.2),
     )
 
 pub returns : goal.returns

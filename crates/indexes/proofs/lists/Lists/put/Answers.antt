@@ -56,7 +56,7 @@ invariant_of-self-2 c =
     let place = slice_index starts key + c.args.many in
     let high = inner starts xs key c.args.many within there few in
     let same : c.insert.new.self.items ≡ insert xs place c.args.number =
-        c.in-Ok.ensures.items ∙ ap (λ (p : ℕ). insert xs p c.args.number) (as_place starts key c.index.result.now c.args.many c.index.ensures (omega (arith, there))) in
+    c.in-Ok.ensures.items ∙ ap (λ (p : ℕ). insert xs p c.args.number) (as_place starts key c.index.result.now c.args.many c.index.ensures (omega (arith, there))) in
     record {
       within = subst (IsWithin shifted) (sym same) (put_within starts shifted xs within key place c.args.number there (omega arith) high c.shift.ensures);
       listed = subst (AreAllListed shifted) (sym same) (put_listed starts shifted xs within key place c.args.number there (omega arith) high c.shift.ensures);
@@ -76,7 +76,7 @@ returns c =
     let place = slice_index starts key + c.args.many in
     let high = inner starts xs key c.args.many within there few in
     let same : c.insert.new.self.items ≡ insert xs place c.args.number =
-        c.in-Ok.ensures.items ∙ ap (λ (p : ℕ). insert xs p c.args.number) (as_place starts key c.index.result.now c.args.many c.index.ensures (omega (arith, there))) in
+    c.in-Ok.ensures.items ∙ ap (λ (p : ℕ). insert xs p c.args.number) (as_place starts key c.index.result.now c.args.many c.index.ensures (omega (arith, there))) in
     let behind : place - slice_index starts key ≡ c.args.many = omega arith in
     record {
       here = ap (λ (ys : List ℕ). list_at shifted ys key) same
