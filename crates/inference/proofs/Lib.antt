@@ -17,3 +17,4 @@ pub mod Meeting
 pub mod Restrictions
 pub mod Marking
 pub mod Flagging
+pub mod Planning

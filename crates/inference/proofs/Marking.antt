@@ -56,7 +56,7 @@ bit_left a b s has = omega (arith, bit_at_or a b (bit_of s), bit_at-lt b (bit_of
 pub bit_right : (a b : ℕ) (s : PropId2) → HasBit b s → HasBit (bit_or a b) s
 bit_right a b s has = omega (arith, bit_at_or a b (bit_of s), bit_at-lt a (bit_of s), has)
 
-apart : (a b : ℕ) (s : PropId2) → bit_and a b ≡ 0 → HasBit a s → HasBit b s → ⊥
+pub apart : (a b : ℕ) (s : PropId2) → bit_and a b ≡ 0 → HasBit a s → HasBit b s → ⊥
 apart a b s none here there =
     let both = bit_at_and a b (bit_of s) in
     let zero = ap (λ x. bit_at x (bit_of s)) none ∙ bit_at-zero (bit_of s) in

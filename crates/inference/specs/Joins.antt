@@ -5,17 +5,19 @@ use Rattle.normal_forms.specs.declared.forms.Form.{Form}
 use Rattle.normal_forms.specs.declared.forms.PropId2.TheVariants.{Property}
 use Rattle.normal_forms.specs.declared.forms.Class2.TheVariants.{Expr}
 use Rattle.inference.specs.declared.joins.Joins.{Joins}
+use Rattle.inference.specs.Plans.{ArePlans}
 use Rattle.inference.specs.Marks.{HasSeconds, HasEnds, HasAbove, HasFilled, AreRestrictions}
 
 -- each mask has the bits that the property whose number is its place may be joined by, as the first, and as the second of two; those at or
 -- above it; and those of the restrictions that the expression whose number is its place fills. The lists are those of the restrictions on each
--- property
+-- property, and the plans those of the properties whose numbers are their places
 pub record AreJoins (forms : List Form) (joins : Joins) : Type 0 where
   pub seconds : (n mask : ℕ) → slice_get joins.seconds.items n ≡ Some mask → HasSeconds forms mask (Property (record { 0 = n }))
   pub ends : (n mask : ℕ) → slice_get joins.ends.items n ≡ Some mask → HasEnds forms mask (Property (record { 0 = n }))
   pub above : (n mask : ℕ) → slice_get joins.above.items n ≡ Some mask → HasAbove forms mask (Property (record { 0 = n }))
   pub filled : (n mask : ℕ) → slice_get joins.filled.items n ≡ Some mask → HasFilled forms mask (Expr (record { 0 = n }))
   pub restrictions : AreRestrictions forms joins.restrictions
+  pub plans : ArePlans forms joins.plans
 
 pub AreJoins-prop : (forms : List Form) (joins : Joins) → IsProp (AreJoins forms joins)
 AreJoins-prop forms joins = Prim.hlevel logic.props

@@ -1,5 +1,5 @@
 //! Which edges chains may join, told by the properties of the two, and for which classes an edge may carry something to its source.
-ghost use Rattle.std.specs.Prelude.{◌≡◌, ◌↔◌, ◌+◌, ◌<◌, ◌^◌, ℕ, List, Contains, IfOk, IsTrue, OnOk, length, slice_get, Some, None, true};
+ghost use Rattle.std.specs.Prelude.{◌≡◌, ◌↔◌, ◌+◌, ◌<◌, ◌^◌, ℕ, List, Contains, IfOk, IfSome, IsTrue, OnOk, length, slice_get, Some, None, true};
 ghost use Rattle.facts.specs.Closure.{nothing};
 ghost use Rattle.indexes.specs.FormsUnderKeys.{IsUnder};
 ghost use Rattle.indexes.specs.Keys.{by_restricted, property_key};
@@ -10,8 +10,10 @@ ghost use Rattle.property_closure.specs.PropertyClosures.{Has};
 ghost use Rattle.inference.specs.PropertyClosures.{IsClosureOf};
 ghost use Rattle.inference.specs.Marks.{AreRestrictions, AreRestrictionsBefore, AreRestrictionsWithin, HasAbove, HasBit, HasEnd, HasEnds, HasFilled, HasFilledAt, HasSecondAt, HasSeconds};
 ghost use Rattle.inference.specs.Joins.{AreJoins};
+ghost use Rattle.inference.specs.Plans.{IsPlan};
 
 use crate::conclusions::NOTHING;
+use crate::plans::{PlannedChain, all_plans, plan_at};
 use crate::properties::is_listed;
 use crate::visits::has_any;
 use axioms::{ExprId, Memory, PropId};
@@ -24,7 +26,8 @@ use std::alloc::{AllocError, Global};
 /// For each property a mask of those that an edge may have that a chain joins behind one by it, a mask of the properties that it counts
 /// as at the end of a chain, and a mask of the properties at or above it; and for each expression a mask of the properties of the
 /// restrictions that it fills. A chain joins two edges only where the first two have a bit in common, and an edge carries something to
-/// its source for a class at its target only where the last two have. And for each property the numbers of the restrictions on it.
+/// its source for a class at its target only where the last two have. And for each property the numbers of the restrictions on it, and
+/// for the first ones, where there is a chain, the chains that begin with it or with one above it.
 #[derive(Drop)]
 pub struct Joins {
     pub(crate) seconds: Vec<u64>,
@@ -32,10 +35,12 @@ pub struct Joins {
     pub(crate) above: Vec<u64>,
     pub(crate) filled: Vec<u64>,
     pub(crate) restrictions: PackedLists,
+    pub(crate) plans: PackedLists<PlannedChain>,
 }
 
 /// The bit that stands for the property, alone.
-fn bit(property: PropId2) -> u64
+#[inline(always)]
+pub(crate) fn bit(property: PropId2) -> u64
     ensures { HasBit result property }
 {
     let number = match property {
@@ -234,7 +239,7 @@ fn mask_at(masks: &[u64], place: usize) -> u64
 }
 
 /// Whether the closure has the property.
-fn is_known(closure: &PropertyClosure, property: PropId2) -> bool
+pub(crate) fn is_known(closure: &PropertyClosure, property: PropId2) -> bool
     ensures { result ≡ true → Has closure.now property }
 {
     is_listed(closure.supers(property), property)
@@ -264,6 +269,7 @@ impl Joins {
             above: Vec::new(alloc),
             filled: Vec::new(alloc),
             restrictions,
+            plans: PackedLists::new(alloc),
         }
     }
 
@@ -291,8 +297,8 @@ impl Joins {
         Ok(joins)
     }
 
-    /// What the chains join, and what edges carry, for the properties of which a mark may tell; with no masks of what chains join where
-    /// there is no chain.
+    /// What the chains join, and what edges carry, for the properties of which a mark may tell; with no masks of what chains join, and
+    /// no plans of them, where there is no chain.
     ///
     /// # Errors
     ///
@@ -309,7 +315,9 @@ impl Joins {
         if are_blank(&joins.seconds) {
             joins.seconds.clear();
             joins.ends.clear();
+            return Ok(joins);
         }
+        joins.plans = all_plans(alloc, problem, closure)?;
         Ok(joins)
     }
 
@@ -344,6 +352,17 @@ impl Joins {
         match property {
             PropId2::Property(PropId(number)) => mask_at(&self.above, number as usize),
             PropId2::Partial(_) => u64::MAX,
+        }
+    }
+
+    /// The chains that begin with the property or with one above it, if they are listed.
+    #[inline(always)]
+    pub(crate) fn plan(&self, property: PropId2) -> Option<&[PlannedChain]>
+        ensures { IfSome result (λ plan. (forms : List Form2) → AreJoins forms self.now → IsPlan forms property plan.now) }
+    {
+        match property {
+            PropId2::Property(PropId(number)) => plan_at(&self.plans, number as usize),
+            PropId2::Partial(_) => None,
         }
     }
 

@@ -11,6 +11,7 @@ mod joins;
 mod known_facts;
 mod led;
 mod pairing;
+mod plans;
 mod premises;
 mod properties;
 mod rules;

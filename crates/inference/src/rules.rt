@@ -209,6 +209,28 @@ impl Rules<'_> {
     }
 
     /// Adds what chains that begin with the first property, or one above it, give from the facts, of which the second is an edge by the
+    /// second property: they are looked up by the first.
+    fn draw_chains_above(
+        &self,
+        facts: &mut KnownFacts,
+        first: PropId2,
+        second: PropId2,
+        older: Premises<'_>,
+    ) -> Result<(), Stop>
+        requires derived { IsDerived self.now.problem.now facts.old }
+        requires older { AreAt facts.old.facts older.numbers.now older.facts.now }
+        requires second { IsBehind second older.facts.now }
+        requires has { Has self.now.closure.now first }
+        requires has_second { Has self.now.closure.now second }
+        ensures { Draws self.now facts.old facts.new result (AllChainsDrawn self.now.problem.now older.entry.facts.now facts.new.facts first) }
+    {
+        for above in self.closure.supers(first) {
+            self.draw_chains_from(facts, *above, second, older)?;
+        }
+        Ok(())
+    }
+
+    /// Adds what chains that begin with the first property, or one above it, give from the facts, of which the second is an edge by the
     /// second property.
     #[inline(always)]
     pub(crate) fn draw_chains(
@@ -225,8 +247,12 @@ impl Rules<'_> {
         requires has_second { Has self.now.closure.now second }
         ensures { Draws self.now facts.old facts.new result (AllChainsDrawn self.now.problem.now older.entry.facts.now facts.new.facts first) }
     {
-        for above in self.closure.supers(first) {
-            self.draw_chains_from(facts, *above, second, older)?;
+        match self.planned(first, second) {
+            Some(plan) => {
+                let above = self.joins.above(second);
+                self.draw_plan(facts, plan, above, older)?;
+            }
+            None => self.draw_chains_above(facts, first, second, older)?,
         }
         Ok(())
     }

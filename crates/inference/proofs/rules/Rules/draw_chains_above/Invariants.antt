@@ -2,7 +2,7 @@ use Rattle.std.proofs.Common.{take, Contains}
 use Rattle.normal_forms.specs.declared.forms.PropId2.{PropId2}
 use Rattle.inference.specs.Derivations.{Grows}
 use Rattle.inference.specs.Visits.{ChainsDrawn}
-use Rattle.inference.proofs.rules.Rules.draw_chains.Given as goal
+use Rattle.inference.proofs.rules.Rules.draw_chains_above.Given as goal
 
 abbrev pub invariant-loop-above : goal.invariant-loop-above
 invariant-loop-above l = record {
