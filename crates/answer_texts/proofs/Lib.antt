@@ -3,3 +3,4 @@ pub mod Expressions
 pub mod Forms
 pub mod EachLine
 pub mod Reaching
+pub mod Classes

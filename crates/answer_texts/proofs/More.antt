@@ -11,10 +11,10 @@ use Rattle.lemmas.proofs.Ranges.{enumerate_push}
 pub added : (old out new a b c : List ℕ) → out ≡ old ++ a → new ≡ out ++ b → c ≡ a ++ b → new ≡ old ++ c
 added old out new a b c e f g = f ∙ ap (λ (x : List ℕ). x ++ b) e ∙ append_assoc old a b ∙ ap (λ (x : List ℕ). old ++ x) (sym g)
 
-flat_more : {X : Type 0} (f : X → List ℕ) (xs : List X) (x : X) → flat_map f (xs ++ x ∷ []) ≡ flat_map f xs ++ f x
+pub flat_more : {X : Type 0} (f : X → List ℕ) (xs : List X) (x : X) → flat_map f (xs ++ x ∷ []) ≡ flat_map f xs ++ f x
 flat_more f xs x = flat_map-append f xs (x ∷ []) ∙ ap (λ (s : List ℕ). flat_map f xs ++ s) (append-nil (f x))
 
-range_from : (a n k : ℕ) → k ≡ a + n → range_with_len a (n + 1) ≡ range_with_len a n ++ k ∷ []
+pub range_from : (a n k : ℕ) → k ≡ a + n → range_with_len a (n + 1) ≡ range_with_len a n ++ k ∷ []
 range_from a n k e = simp map-id at (map-range_with_len_more (λ x. x) a n k (sym e))
 
 pub range_more : (f : ℕ → List ℕ) (k : ℕ) → flat_map f (range_with_len 0 (k + 1)) ≡ flat_map f (range_with_len 0 k) ++ f k
@@ -52,7 +52,7 @@ filter_case true y longer xs last e = ap (λ (zs : List ℕ). y ∷ zs) e
 filter_case false y longer xs last e = e
 
 -- the numbers that pass, one number further
-filter_push : (p : ℕ → Bool) (xs : List ℕ) (x : ℕ) → filter p (xs ++ x ∷ []) ≡ filter p xs ++ (if p x then x ∷ [] else [])
+pub filter_push : (p : ℕ → Bool) (xs : List ℕ) (x : ℕ) → filter p (xs ++ x ∷ []) ≡ filter p xs ++ (if p x then x ∷ [] else [])
 filter_push p [] x = refl
 filter_push p (y ∷ ys) x = filter_case (p y) y (filter p (ys ++ x ∷ [])) (filter p ys) (if p x then x ∷ [] else []) (filter_push p ys x)
 

@@ -7,7 +7,7 @@ ghost use Rattle.interpretation_spec.specs.NumberedInterpretation.{IsMadeFor};
 ghost use Rattle.std.specs.List.{enumerate_from, flat_map, range_with_len};
 ghost use Rattle.std.specs.Prelude.{◌++◌, ◌-◌, ◌<◌, ◌≡◌, IfOk, OnOk, length};
 
-use crate::looking::{all_elements, element_of, elements_in, is_member};
+use crate::looking::{all_elements, classes_with_elements, element_of, elements_in, is_member};
 use crate::names::{push_name, push_number};
 use crate::pairs::{PairText, push_properties};
 use axioms::{ClassId, IndId, Memory, Ontology};
@@ -61,7 +61,7 @@ fn push_class(
     out.extend_from_slice(b"\n")
 }
 
-// Adds the lines of all classes but owl:Thing, with those of the elements that are in them.
+// Adds the lines of all classes but owl:Thing, with those of the elements that are in them. Of a class without elements there is none.
 fn push_classes(
     alloc: Global,
     out: &mut Vec<u8>,
@@ -73,12 +73,10 @@ fn push_classes(
         (out.new.items
         ≡ out.old.items ++ flat_map (text.class_text ontology.now.names interpretation.now elements.now) (range_with_len 1 (length ontology.now.names.classes - 1))) }
 {
-    ontology.well_formed();
-    ontology.bounded();
-    for number in 1..ontology.classes().len() {
-        let class = ClassId(number as u32);
-        let members = elements_of(alloc, interpretation, elements, class)?;
-        push_class(out, ontology, class, &members)?;
+    let classes = classes_with_elements(alloc, ontology, interpretation)?;
+    for class in &classes {
+        let members = elements_of(alloc, interpretation, elements, *class)?;
+        push_class(out, ontology, *class, &members)?;
     }
     Ok(())
 }

@@ -1,25 +1,39 @@
-use Rattle.std.proofs.Common.{ℕ, List, ◌++◌, ◌-◌, ◌≡◌, ◌∙◌, ap, length, arith, subst}
+use Rattle.std.proofs.Common.{◌≡◌, ℕ, ◌+◌, ◌-◌, List, ◌++◌, take, get_or, length, map, ap, sym, ◌∙◌}
 use Rattle.std.specs.List.{flat_map, range_with_len}
-use Rattle.axioms.specs.Expression.{owl_thing}
+use Rattle.std.proofs.lemmas.List.{take_all, take_more}
 use Rattle.axioms.specs.Ontology.{name_at}
-use Rattle.std.proofs.lemmas.Option.{slice_get_within}
+use Rattle.axioms.specs.declared.ids.ClassId.{ClassId}
+use Rattle.interpretation_spec.specs.NumberedInterpretation.{members_of}
+use Rattle.number_sets.specs.Members.{has}
+use Rattle.answer_texts.specs.Classes.{has_elements}
 use Rattle.answer_texts.specs.Refutation as text
-use Rattle.answer_texts.proofs.More.{added, later_more}
+use Rattle.answer_texts.proofs.Classes.{filter_none, has_none, told_of_all}
+use Rattle.answer_texts.proofs.More.{added, flat_more}
 use Rattle.answer_texts.proofs.refutation.push_classes.Goals as goal
 
-pub loop-number-preserved : goal.loop-number-preserved
-loop-number-preserved c =
+pub loop-class-preserved : goal.loop-class-preserved
+loop-class-preserved c =
     let names = c.args.ontology.now.names in
-    let n = c.loop-number.number in
-    let out = c.loop-number.out.items in
-    let f = text.class_text names c.args.interpretation.now c.args.elements.now in
-    let step : c.push_class.new.out.items ≡ out ++ f n =
-    c.in_ok-push_class.ensures
-    ∙ ap (λ (members : List ℕ). out ++ text.members_text (name_at names.classes n) members) (c.deref.ensures.value ∙ c.in_ok-members.ensures) in
-    added c.args.out.now.items out c.push_class.new.out.items _ (f n) _ c.loop-number.invariant step (later_more f n c.loop-number.auto.number)
+    let k = c.loop-class.class-index in
+    let out = c.loop-class.out.items in
+    let classes = c.deref-class-items.result.now in
+    let f : ClassId → List ℕ = λ class. text.class_text names c.args.interpretation.now c.args.elements.now class.0 in
+    let class = get_or classes k (record { 0 = 0 }) in
+    let step : c.push_class.new.out.items ≡ out ++ f class =
+    c.in_ok-push_class.ensures ∙ ap (λ (members : List ℕ). out ++ text.members_text (name_at names.classes class.0) members) (c.deref.ensures.value ∙ c.in_ok-members.ensures) in
+    added c.args.out.now.items out c.push_class.new.out.items (flat_map f (take k classes)) (f class) (flat_map f (take (k + 1) classes)) c.loop-class.invariant step
+    (ap (flat_map f) (take_more classes k (record { 0 = 0 }) c.loop-class-test.true) ∙ flat_more f (take k classes) class)
 
 pub returns : goal.returns
 returns c =
-    let some = slice_get_within c.args.ontology.now.names.classes 0 owl_thing c.well_formed-2.ensures.thing_name in
-    let e : c.loop-number.number - 1 ≡ length c.args.ontology.now.names.classes - 1 = omega (arith, c.loop-number-test.false, c.classes-number-end.ensures.count, c.loop-number.auto.number) in
-    subst (λ (k : ℕ). c.loop-number.out.items ≡ c.args.out.now.items ++ flat_map (text.class_text c.args.ontology.now.names c.args.interpretation.now c.args.elements.now) (range_with_len 1 k)) e c.loop-number.invariant
+    let names = c.args.ontology.now.names in
+    let i = c.args.interpretation.now in
+    let elements = c.args.elements.now in
+    let told = text.class_text names i elements in
+    let classes = c.deref-class-items.result.now in
+    let all = take_all c.loop-class.class-index classes c.loop-class-test.false in
+    c.loop-class.invariant
+    ∙ ap (λ (cs : List ClassId). c.args.out.now.items ++ flat_map (λ (class : ClassId). told class.0) cs) all
+    ∙ ap (λ (s : List ℕ). c.args.out.now.items ++ s)
+    (told_of_all told (has_elements i) (λ k none. ap (text.members_text (name_at names.classes k)) (filter_none (has (members_of i k)) (has_none (members_of i k) none) elements))
+    (range_with_len 1 (length names.classes - 1)) classes (ap (map (λ (class : ClassId). class.0)) c.deref-class-items.ensures.value ∙ c.in_ok-classes.ensures))
