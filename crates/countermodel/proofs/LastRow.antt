@@ -12,7 +12,7 @@ use Rattle.countermodel.proofs.Ends.{at_end}
 abbrev pub row_at : ℕ → ℕ → List ℕ → Row
 row_at r x ys = (r, x, ys)
 
-one_last : {X : Type 0} (xs ys : List X) (x y : X) → xs ++ x ∷ [] ≡ ys ++ y ∷ [] → x ≡ y
+pub one_last : {X : Type 0} (xs ys : List X) (x y : X) → xs ++ x ∷ [] ≡ ys ++ y ∷ [] → x ≡ y
 one_last {X} xs ys x y e = sym (at_end xs x x) ∙ ap (λ (l : List X). get_or l (length l - 1) x) e ∙ at_end ys y x
 
 -- the row is of the pair's property and source

@@ -21,7 +21,7 @@ pub record HasPut (o : Ontology) (elements : List Context) (facts : List Fact) (
   pub each : (n : ℕ) → n < count → (fact : Fact) → slice_get facts n ≡ Some fact → (e m : ℕ) → IsMember o elements fact e m → Contains (list_at lists e) m
 
 -- a fact puts an element into one class
-one_member : (o : Ontology) (elements : List Context) → AllPairs IsBefore elements → (fact : Fact) (d m e n : ℕ) → IsMember o elements fact d m → IsMember o elements fact e n → (e ≡ d) × (n ≡ m)
+pub one_member : (o : Ontology) (elements : List Context) → AllPairs IsBefore elements → (fact : Fact) (d m e n : ℕ) → IsMember o elements fact d m → IsMember o elements fact e n → (e ≡ d) × (n ≡ m)
 one_member o elements ascend fact d m e n (_, (x, is, at)) (_, (y, is', at')) =
     let class : expr_id e ≡ expr_id d = cc in
     let context : y ≡ x = cc in

@@ -19,7 +19,7 @@ use Rattle.countermodel.proofs.Listing.{same_code}
 use Rattle.countermodel.specs.Edges.{IsGiven, IsGivenBy}
 use Rattle.countermodel.specs.Elements.{contexts_of}
 use Rattle.countermodel.specs.FactsOf.{AddsFacts, AreFactsOf, IsFactOf}
-use Rattle.countermodel.specs.Members.{AreMembers, IsMember}
+use Rattle.countermodel.specs.Members.{IsMember, SayMembers}
 use Rattle.countermodel.specs.declared.pair.Pair.{Pair}
 
 -- all facts are those of any contexts
@@ -32,8 +32,8 @@ module _ (elements : List Context) (all some : List Fact) (are : AreFactsOf elem
     member_fact f e m (own, (x, is, at)) there =
         are.whole (context_of x) f (Contains-from_slice_get elements m (context_of x) at) (subst (IsFactOf (context_of x)) (sym is) refl) there
 
-    pub members_in : (lists : List (List ℕ)) → AreMembers o elements some lists → AreMembers o elements all lists
-    members_in lists members e m = (
+    pub members_in : (Has : ℕ → ℕ → Type 0) → SayMembers o elements some Has → SayMembers o elements all Has
+    members_in Has members e m = (
       λ c. (let (f, there, is) = (members e m).0 c in (f, are.each f there, is)),
       λ (f, there, is). (members e m).1 (f, member_fact f e m is there, is),
     )

@@ -22,6 +22,10 @@ pub record AreAll (P : Context → Type 0) (xs : List Context) : Type 0 where
   pub pass : (m : ℕ) (x : Context) → slice_get xs m ≡ Some x → P x
   pub all : (x : Context) → P x → (m : ℕ) × (slice_get xs m ≡ Some x)
 
+-- the expression of that number
+abbrev pub expression_at : ℕ → code.Context
+expression_at e = Expr (record { 0 = e })
+
 -- the table has the place of each expression of the list
 abbrev pub PlacesExpressions : List code.Context → List ℕ → Type 0
 PlacesExpressions xs places = (m : ℕ) (e : ExprId) → slice_get xs m ≡ Some (Expr e) → slice_get places e.0 ≡ Some m

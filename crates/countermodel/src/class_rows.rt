@@ -26,7 +26,11 @@ fn is_own_class(ontology: &Ontology, class: ExprId) -> bool
 }
 
 /// The class, and the element that the fact puts into it, where it puts one into a named class but `owl:Thing` and `owl:Nothing`.
-fn member(ontology: &Ontology, elements: &Elements, fact: &StoredFact) -> Option<(ExprId, u32)>
+pub(crate) fn member(
+    ontology: &Ontology,
+    elements: &Elements,
+    fact: &StoredFact,
+) -> Option<(ExprId, u32)>
     ensures { MatchOption result (HasNoMember ontology.now elements.now fact.now) (λ p. IsMember ontology.now elements.now fact.now p.0.0 p.1) }
 {
     match fact.get() {

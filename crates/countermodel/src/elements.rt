@@ -1,4 +1,5 @@
 //! Contexts as elements.
+ghost use Rattle.certificate.specs.Writability.{Ascends};
 ghost use Rattle.closure.specs.Closure.{Context as Context2, Expression as Expression2, Individual as Individual2};
 ghost use Rattle.exactness.specs.ListedInterpretation.{AreSatisfiableContexts};
 ghost use Rattle.closure.specs.Denotations.{context_of};
@@ -6,8 +7,9 @@ ghost use Rattle.countermodel.specs.Elements.{contexts_of};
 ghost use Rattle.countermodel.specs.ContextLists.{AreAll, AreBefore, PlacesExpressions, PlacesIndividuals, place_in};
 ghost use Rattle.countermodel.specs.Leading.{AreGroupsOf, AreLinks, IsElementBy};
 ghost use Rattle.countermodel.specs.Sets.{IsAdmitted, IsWithin};
-ghost use Rattle.std.specs.Prelude.{◌≡◌, ◌<◌, ◌≤◌, ◌^◌, ◌↔◌, [], IfOk, IsTrue, MatchOption, OnOk, Some, List, length, slice_get, ℕ};
+ghost use Rattle.std.specs.Prelude.{◌≡◌, ◌<◌, ◌≤◌, ◌^◌, ◌↔◌, [], Contains, IfOk, IsTrue, MatchOption, OnOk, Some, List, length, slice_get, ℕ};
 
+use crate::expressions::place_expressions;
 use crate::groups::groups_of;
 use crate::satisfiable::Satisfiable;
 use axioms::{ExprId, IndId, Memory, Ontology};
@@ -174,6 +176,45 @@ impl Elements {
         list_expressions(&mut contexts, &mut expressions, satisfiable, many)?;
         let many = ontology.individuals().len();
         list_individuals(&mut contexts, &mut individuals, satisfiable, groups, many)?;
+        count(&contexts)?;
+        Ok(Elements {
+            contexts,
+            expressions,
+            individuals,
+        })
+    }
+
+    // The expressions of these numbers, and the individuals that are the least where the individuals form these groups: those of these
+    // contexts. What it costs goes by them, but for a table of the expressions.
+    pub(crate) fn of_expressions(
+        alloc: Global,
+        ontology: &Ontology,
+        numbers: &[u32],
+        satisfiable: &Satisfiable,
+        groups: &Groups,
+    ) -> Result<Elements, Memory>
+        requires within { (x : Context2) → IsAdmitted satisfiable.now x → IsWithin ontology.now x }
+        requires groups { AreLinks groups.now }
+        requires ascend { Ascends numbers.now }
+        requires numbers { (e : ℕ) → Contains numbers.now e ↔ IsAdmitted satisfiable.now (Expression2 e) }
+        ensures { IfOk result (AreAll (IsElementBy satisfiable.now groups.now)) }
+    {
+        ontology.bounded();
+        if numbers.len() >= u32::MAX as usize {
+            return Err(Memory);
+        }
+        let mut contexts = Vec::new(alloc);
+        let mut expressions = vec![in alloc; 0u32; ontology.expression_count()]?;
+        let mut individuals = Vec::new(alloc);
+        place_expressions(&mut contexts, &mut expressions, numbers)?;
+        let count_individuals = ontology.individuals().len();
+        list_individuals(
+            &mut contexts,
+            &mut individuals,
+            satisfiable,
+            groups,
+            count_individuals,
+        )?;
         count(&contexts)?;
         Ok(Elements {
             contexts,

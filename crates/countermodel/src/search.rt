@@ -22,9 +22,9 @@ use std::alloc::Global;
 
 /// The contexts that were found so far, in order, and the same as a set.
 #[derive(Drop)]
-struct ContextSearch {
-    found: Vec<Context>,
-    seen: ContextSet,
+pub(crate) struct ContextSearch {
+    pub found: Vec<Context>,
+    pub seen: ContextSet,
 }
 
 impl ContextSearch {
@@ -152,15 +152,17 @@ fn begun(
     Ok(search)
 }
 
-/// The contexts that edges lead to from the context, which has an element, and from individuals.
+/// The search that has found the contexts that edges lead to from the context, which has an element, and from individuals.
 pub(crate) fn reached_from(
     indexed: &Indexed<'_>,
     groups: &Groups,
     from: Context,
-) -> Result<ContextSet, Memory>
+) -> Result<ContextSearch, Memory>
     requires groups { AreGroupsOf indexed.now.ontology indexed.now.saturation.normal.asked groups.now }
     requires within { IsWithin indexed.now.ontology (context_of from) }
-    ensures { IfOk result (λ s. (x : Context2) → (holds s x ≡ true) ↔ IsReachedFrom indexed.now.ontology indexed.now.saturation.normal.asked (context_of from) x) }
+    ensures search { IfOk result (IsSearch indexed.now.ontology) }
+    ensures reached { IfOk result
+        (λ s. (x : Context2) → (holds s.seen x ≡ true) ↔ IsReachedFrom indexed.now.ontology indexed.now.saturation.normal.asked (context_of from) x) }
 {
     let closed = indexed.closed();
     let ontology = closed.ontology();
@@ -169,10 +171,10 @@ pub(crate) fn reached_from(
     let mut search = begun(alloc, ontology, groups, from)?;
     for next in 0..usize::MAX {
         if next >= search.found.len() {
-            return Ok(search.seen);
+            return Ok(search);
         }
         let edges = indexed.edges_from(search.found[next]);
         follow(&mut search, indexed, groups, edges)?;
     }
-    Ok(search.seen)
+    Ok(search)
 }

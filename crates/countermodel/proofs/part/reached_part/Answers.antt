@@ -2,7 +2,6 @@ use Rattle.std.proofs.Common.{List, map, Some, sym, ap, ◌∙◌, subst}
 use Rattle.axioms.specs.Ontology.{Ontology}
 use Rattle.axioms.specs.WellFormedness.{IsOntology}
 use Rattle.certificate.specs.View.{class_row_of, pair_row_of, claim_of}
-use Rattle.certificate.specs.declared.listed.ClassRow.{ClassRow}
 use Rattle.certificate.specs.declared.listed.PairRow.{PairRow}
 use Rattle.closure.specs.Closure.{Context}
 use Rattle.closure.specs.Denotations.{context_of}
@@ -43,8 +42,8 @@ reached_elements-requires-clause-leads c =
 pub unreachable-requires : goal.unreachable-requires
 unreachable-requires c = (let own = c.in_ok-elements.ensures.all (context_of c.leader_of-from.result) itself in c.in_default.ensures own.0 own.1)
 
-pub add_class_rows-requires-clause-facts : goal.add_class_rows-requires-clause-facts
-add_class_rows-requires-clause-facts c =
+pub class_rows_of-requires-clause-facts : goal.class_rows_of-requires-clause-facts
+class_rows_of-requires-clause-facts c =
     let k = c.closed-closed.result.now in
     let elements = c.in_ok-elements.elements in
     let facts = c.in_ok-facts.facts.items in
@@ -80,7 +79,7 @@ returns-clause-part c =
     let o = c.args.indexed.now.ontology in
     let asked = c.args.indexed.now.saturation.normal.asked in
     let elements = c.in_ok-elements.elements in
-    let rows = c.add_class_rows.new.rows.items in
+    let rows = c.in_ok-classes.classes.items in
     let pairs = c.add_pair_rows.new.rows.items in
     let groups = subst (λ (k : Closed). AreGroupsOf k.ontology k.saturation.normal.asked c.groups_of-groups.result.now) c.closed-closed.ensures c.groups_of-groups.ensures in
     let is = c.leader_of-from.ensures o asked groups in
@@ -91,7 +90,7 @@ returns-clause-part c =
       own = c.in-Some.ensures ∙ ap Some is;
       domain = c.len.ensures;
       classes = subst (λ (k : Closed). AreClassRows k.ontology k.saturation.normal.asked elements (map class_row_of rows)) c.closed-closed.ensures
-          (all_taken (λ (rs : List ClassRow). AreClassRows k.ontology k.saturation.normal.asked elements (map class_row_of rs)) c.new-classes.result.items rows c.new-classes.ensures.items c.in_ok-add_class_rows.ensures);
+          c.in_ok-classes.ensures;
       pairs = subst (λ (k : Closed). ArePairRows k.ontology k.saturation.normal.asked elements (map pair_row_of pairs)) c.closed-closed.ensures
           (all_taken (λ (rs : List PairRow). ArePairRows k.ontology k.saturation.normal.asked elements (map pair_row_of rs)) c.new-pairs.result.items pairs c.new-pairs.ensures.items c.in_ok-add_pair_rows.ensures);
       individuals = subst (λ (x : Ontology). AreIndividualElements x elements c.in_ok-individuals.individuals.items) same c.in_ok-individuals.ensures;
@@ -103,12 +102,12 @@ returns-clause-fits c =
     let o = c.args.indexed.now.ontology in
     let asked = c.args.indexed.now.saturation.normal.asked in
     let elements = c.in_ok-elements.elements in
-    let rows = c.add_class_rows.new.rows.items in
+    let rows = c.in_ok-classes.classes.items in
     let pairs = c.add_pair_rows.new.rows.items in
     let same = c.ontology-ontology.ensures ∙ ap (λ (k : Closed). k.ontology) c.closed-closed.ensures in
     let class_rows : AreClassRows o asked elements (map class_row_of rows) =
     subst (λ (k : Closed). AreClassRows k.ontology k.saturation.normal.asked elements (map class_row_of rows)) c.closed-closed.ensures
-    (all_taken (λ (rs : List ClassRow). AreClassRows k.ontology k.saturation.normal.asked elements (map class_row_of rs)) c.new-classes.result.items rows c.new-classes.ensures.items c.in_ok-add_class_rows.ensures) in
+    c.in_ok-classes.ensures in
     let pair_rows : ArePairRows o asked elements (map pair_row_of pairs) =
     subst (λ (k : Closed). ArePairRows k.ontology k.saturation.normal.asked elements (map pair_row_of pairs)) c.closed-closed.ensures
     (all_taken (λ (rs : List PairRow). ArePairRows k.ontology k.saturation.normal.asked elements (map pair_row_of rs)) c.new-pairs.result.items pairs c.new-pairs.ensures.items c.in_ok-add_pair_rows.ensures) in

@@ -33,8 +33,11 @@ loop-next-init c =
     begun i.ontology i.saturation.normal.asked c.args.from search.found.items search.seen (subst (λ (o : Ontology). IsSearch o search) is c.in_ok-search.ensures.search)
     (subst (λ (o : Ontology). (x : Context) → Contains search.found.items x ↔ IsStart o c.args.from (length o.names.individuals) x) is c.in_ok-search.ensures.started)
 
-pub returns-then-next-len : goal.returns-then-next-len
-returns-then-next-len c =
+pub returns-then-next-len-clause-search : goal.returns-then-next-len-clause-search
+returns-then-next-len-clause-search c = c.loop-next.invariant.marked
+
+pub returns-then-next-len-clause-reached : goal.returns-then-next-len-clause-reached
+returns-then-next-len-clause-reached c =
     let i = c.args.indexed.now in
     let found = c.loop-next.search.found.items in
     let done : length found ≤ c.loop-next.next = omega (arith, c.if-next-len.true, c.len.ensures, c.loop-next.search.found.ok) in
@@ -59,8 +62,11 @@ loop-next-preserved c =
     followed o s.normal.asked c.args.from next found c.loop-next.search.seen c.loop-next.invariant x now c.follow.new.search.seen here c.in_ok-follow.ensures.search
     (same_added (LeadByFacts o s.normal.asked s.state.facts edges) (IsStep o s.normal.asked x) found now step c.in_ok-follow.ensures.adds)
 
-pub returns : goal.returns
-returns c =
+pub returns-clause-search : goal.returns-clause-search
+returns-clause-search c = c.loop-next.invariant.marked
+
+pub returns-clause-reached : goal.returns-clause-reached
+returns-clause-reached c =
     let i = c.args.indexed.now in
     let found = c.loop-next.search.found.items in
     let done : length found ≤ c.loop-next.next = omega (arith, c.loop-next-test.false, c.loop-next.search.found.ok) in
