@@ -374,3 +374,10 @@ no_edge_asked all added leave f x p y is asked = ⊎_elim
     (λ w. leave w.0 w.1 all x p y (subst (Asks all w.0) is w.2))
     (λ w. let none : ListAsks w.0 (Edge x p y) = subst (ListAsks w.0) is w.2 in none)
     asked
+
+-- where there is no form and no list, none asks
+pub nothing_asked : (all : List Form) (added : Problem) (f : Fact) → length added.forms ≡ 0 → length added.apart.classes ≡ 0 → ¬ IsAsked all added f
+nothing_asked all added f forms lists asked = ⊎_elim
+    (λ w. omega (arith, w.1.1, forms))
+    (λ w. omega (arith, w.1.1, lists))
+    asked

@@ -4,7 +4,6 @@ use Rattle.std.proofs.lemmas.Bool.{cases_lt, false≢true}
 use Rattle.std.proofs.lemmas.Bool.Decides.{eqb_tells}
 use Rattle.std.proofs.lemmas.List.{append-nil, get_or-replicate, get_or_past, length-replicate}
 use Rattle.std.proofs.lemmas.List.Elements.{Contains-append_left, Contains-push, Contains-push_cases, filter_more}
-use Rattle.std.proofs.lemmas.Option.{slice_get-get_or}
 use Rattle.axioms.specs.declared.ids.ExprId.{ExprId}
 use Rattle.facts.specs.declared.contexts.Fact.{Fact}
 use Rattle.facts.specs.Closure.{Problem}
@@ -32,6 +31,13 @@ pub none_past : (flags new : List Bool) (i : ℕ) → HasOneFlagMore i flags new
 none_past flags new i more past n high =
     let ne : n ≢ i = omega (arith, high) in
     more.others n ne ∙ past n (omega (arith, high))
+
+-- no flag at all: no fact is such
+pub nothing_flagged : (P : Fact → Type 0) (facts : List Fact) (flags : List Bool) (n : ℕ) → is_flagged flags n ≡ false → ((f : Fact) → ¬ P f) → IsFlagged P facts flags n
+nothing_flagged P facts flags n off none = record {
+  yes = λ e. absurd (false≢true (sym off ∙ e));
+  no = λ _ h. none h.0 h.2;
+}
 
 -- no flag more: the fact is not such
 pub flag_none : (P : Fact → Type 0) (facts : List Fact) (flags : List Bool) (i : ℕ) (f : Fact) → slice_get facts i ≡ Some f → ¬ P f → is_flagged flags i ≡ false
@@ -93,12 +99,6 @@ those_and_one flags numbers i low those n = ⊎_elim
       λ c. rw get_or-set_other ((those n).1 (⊎_elim (λ there. there) (λ is. absurd (apart (sym is))) (Contains-push_cases numbers i n c))),
     )
 
-pub flagged_one : (flags : List Bool) (i : ℕ) → i < length flags → HasOneFlagMore i flags (slice_set flags i true)
-flagged_one flags i low = record {
-  here = rw get_or-set_same refl;
-  others = λ n other. rw get_or-set_other refl;
-}
-
 -- the forms and lists that are added ask for the same facts as those that are new
 pub asked_as_new : (before now added : Problem) → ((f : Fact) → IsAskedByForm now.forms added.forms f ↔ NewFormAsks before.forms now.forms f) → ((cs : List ExprId) → Contains added.apart.classes cs ↔ IsNew before.apart.classes now.apart.classes cs)
     → (f : Fact) → IsAsked now.forms added f ↔ IsAskedAnew before now f
@@ -141,6 +141,3 @@ kept_none flags w n e = ap (λ b. w ++ cond (not b) (n ∷ []) []) e ∙ append-
 
 pub kept_more : (flags : List Bool) (xs : List ℕ) (i d : ℕ) → i < length xs → kept flags (take (i + 1) xs) ≡ kept flags (take i xs) ++ kept flags (get_or xs i d ∷ [])
 kept_more flags xs i d low = filter_more (is_kept flags) xs i d low
-
-pub read : {X : Type 0} (xs items : List X) (n : ℕ) (d : X) → items ≡ xs → n < length items → slice_get xs n ≡ Some (get_or items n d)
-read {X} xs items n d same low = subst (λ (ys : List X). slice_get ys n ≡ Some (get_or items n d)) same (slice_get-get_or items n d low)

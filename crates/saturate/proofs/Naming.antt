@@ -1,16 +1,12 @@
 -- What is named is still there where there is more; and rows of what is named.
-use Rattle.std.proofs.Common.{◌≡◌, ◌↔◌, ◌≢◌, ℕ, ◌+◌, ◌<◌, ◌≤◌, ◌⊎◌, inl, inr, ⊎_elim, Bool, true, false, List, [], ◌∷◌, ◌++◌, length, take, slice_get, slice_set, get_or, get_or-set_other, get_or-set_same, Some, Contains, refl, ap, subst, sym, ◌∙◌, arith, below_more}
-use Rattle.std.proofs.Math.ListN.{length-set}
-use Rattle.std.proofs.lemmas.Bool.{cases_lt, false≢true}
-use Rattle.std.proofs.lemmas.Bool.Decides.{eqb_tells}
-use Rattle.std.proofs.lemmas.List.{get_or_past, take_all}
+use Rattle.std.proofs.Common.{◌≡◌, ◌↔◌, ℕ, ◌+◌, ◌<◌, ◌≤◌, ◌⊎◌, inl, inr, ⊎_elim, Bool, false, List, [], ◌∷◌, ◌++◌, length, take, slice_get, get_or, Some, Contains, refl, subst, sym, ◌∙◌, arith, below_more}
+use Rattle.std.proofs.lemmas.Bool.{false≢true}
+use Rattle.std.proofs.lemmas.List.{take_all}
 use Rattle.std.proofs.lemmas.List.Elements.{Contains-append_left, Contains-push, Contains-push_cases}
 use Rattle.lemmas.proofs.Members.{Contains-none}
 use Rattle.lemmas.proofs.Places.{take_push}
 use Rattle.facts.specs.Closure.{Problem}
-use Rattle.axioms.specs.declared.ids.ExprId.{ExprId}
 use Rattle.normal_forms.specs.declared.forms.Class2.{Class2}
-use Rattle.normal_forms.specs.declared.forms.Class2.TheVariants as class
 use Rattle.saturate.specs.Naming.{ArePut, IsOfLists, IsOfOne, expression}
 use Rattle.saturate.specs.Requests.{AreNamed, HasForm, IsNamed, NamesClass}
 use Rattle.number_sets.specs.Members.{has}
@@ -80,48 +76,6 @@ none_put P row none = record {
   all = λ k _ is. absurd (none (expression k) is);
   only = λ k e. inl e;
 }
-
-same_number : (m n : ExprId) → class.Expr m ≡ class.Expr n → m.0 ≡ n.0
-same_number m n e = let k : m ≡ n = cc in ap (λ (x : ExprId). x.0) k
-
--- the number of that class
-pub one_put : (row : List Bool) (n : ℕ) → ArePut (λ a. a ≡ expression n) row (slice_set row n true)
-one_put row n = record {
-  long = length-set row n true;
-  were = λ k e. ⊎_elim
-      (λ w. here k w.1 (within k e))
-      (λ w. let other : k ≢ n = w.1 in rw get_or-set_other e)
-      (eqb_tells k n);
-  all = λ k low is. here k (number k is) low;
-  only = λ k e. ⊎_elim
-      (λ w. inr (ap expression w.1))
-      (λ w. let other : k ≢ n = w.1 in inl (rw get_or-set_other at e))
-      (eqb_tells k n);
-}
-  where
-    here : (k : ℕ) → k ≡ n → k < length row → has (slice_set row n true) k ≡ true
-    here k e low = subst (λ (j : ℕ). has (slice_set row n true) j ≡ true) (sym e) (let within_it : n < length row = omega (arith, low, e) in rw get_or-set_same refl)
-
-    within : (k : ℕ) → has row k ≡ true → k < length row
-    within k e = ⊎_elim
-        (λ (low : k < length row). low)
-        (λ (high : length row ≤ k). absurd (false≢true (sym (get_or_past row k false high) ∙ e)))
-        (cases_lt k (length row))
-
-    number : (k : ℕ) → expression k ≡ expression n → k ≡ n
-    number k e = same_number (record { 0 = k }) (record { 0 = n }) e
-
--- a fresh name has no number of an expression
-pub no_expression : (n : ℕ) (row : List Bool) → ArePut (λ a. a ≡ class.Partial n) row row
-no_expression n row = record {
-  long = refl;
-  were = λ k e. e;
-  all = λ k _ is. absurd (is_none k is);
-  only = λ k e. inl e;
-}
-  where
-    is_none : (k : ℕ) → expression k ≡ class.Partial n → ⊥
-    is_none k e = cc
 
 pub put_as : (P Q : Class2 → Type 0) {old new : List Bool} → ((a : Class2) → P a ↔ Q a) → ArePut P old new → ArePut Q old new
 put_as P Q same put = record {

@@ -5,6 +5,7 @@ ghost use Rattle.normal_forms.specs.declared.forms.Form.{Form as Form2};
 ghost use Rattle.normal_forms.specs.declared.forms.PropId2.TheVariants as the_properties;
 ghost use Rattle.normal_forms.specs.Properties.{IsAtOrBelow};
 ghost use Rattle.facts.specs.Closure.{thing};
+ghost use Rattle.facts.specs.declared.contexts.Fact.{Fact as Fact2};
 ghost use Rattle.indexes.specs.declared.keys.Key.TheVariants.{Whole};
 ghost use Rattle.indexes.specs.Keys.{by_filler, by_first, by_kind, class_key};
 ghost use Rattle.property_closure.specs.PropertyClosures.{Has};
@@ -261,6 +262,19 @@ fn asks_for_edge(
     asks_for_edges(added, closure, property)
         || asks_for_ends(added, source, target)
         || asks_for_denied(added, closure, source, property, target)
+}
+
+/// Whether there is no added form and no added list of disjoint classes.
+pub(crate) fn ask_for_nothing(added: &IndexedProblem) -> bool
+    ensures { result ≡ true → (all : List Form2) (fact : Fact2) → IsAsked all added.now fact → ⊥ }
+{
+    if added.forms().len() > 0 {
+        return false;
+    }
+    if added.apart().classes.len() > 0 {
+        return false;
+    }
+    true
 }
 
 /// Whether a form of this kind may ask for edges.

@@ -12,7 +12,7 @@ ghost use Rattle.inference.specs.Completeness.{AreEntered, IsCompleteUpToRedunda
 ghost use Rattle.inference.specs.Draws.{Draws};
 ghost use Rattle.std.specs.Prelude.{◌≡◌, ◌<◌, ◌≤◌, ◌++◌, ℕ, Contains, List, IfOk, OnErr, OnOk, Some, length, take, true};
 
-use crate::additions::{asks_for, may_ask_for_some_edges};
+use crate::additions::{ask_for_nothing, asks_for, may_ask_for_some_edges};
 use crate::flags::Flags;
 use crate::ground::Ground;
 use crate::named_classes::named_classes;
@@ -38,6 +38,9 @@ fn flagged(
     ensures few { IfOk result (λ flags. length flags ≤ length facts.now.facts) }
     ensures flags { IfOk result (λ flags. (n : ℕ) → n < length facts.now.facts → IsFlagged (IsAsked ground.now.forms added.now) facts.now.facts flags n) }
 {
+    if ask_for_nothing(added) {
+        return Flags::new(alloc, 0);
+    }
     let closure = ground.closure();
     let end = expected_contexts(ground.problem()).min(u32::MAX as usize) as u32;
     let classes = named_classes(alloc, added, end)?;

@@ -1,7 +1,8 @@
 use Rattle.std.proofs.Common.{arith}
 use Rattle.inference.proofs.Edges.{has_property}
 use Rattle.saturate.specs.Requests.{IsAsked}
-use Rattle.saturate.proofs.Flagging.{flag_more, flag_none, none_past}
+use Rattle.std.proofs.lemmas.Result.{IfOk-weaker}
+use Rattle.saturate.proofs.Flagging.{flag_more, flag_none, is_none, none_past, nothing_flagged}
 use Rattle.saturate.proofs.extension.flagged.Goals as goal
 use Rattle.saturate.proofs.extension.flagged.Goals.{then-asks_for+in_ok-add, else-asks_for}
 
@@ -31,3 +32,10 @@ loop-place-preserved c =
         past = λ n high. before.past n (omega (arith, high));
       })
     ]
+
+pub returns-then-ask_for_nothing-clause-flags : goal.returns-then-ask_for_nothing-clause-flags
+returns-then-ask_for_nothing-clause-flags c =
+    let all = c.args.ground.now.forms in
+    IfOk-weaker c.new.result _ _
+    (λ flags is n low. nothing_flagged (IsAsked all c.args.added.now) c.args.facts.now.facts flags n (rw is (is_none 0 n)) (c.ask_for_nothing.ensures c.if-ask_for_nothing.true all))
+    c.new.ensures
