@@ -462,3 +462,14 @@ restored {old = old} {mid = mid} {new = new} d s n long facts births =
     let f : new.facts ≡ old.facts = facts ∙ ap (λ (m : ℕ). take m mid.facts) long ∙ front old.facts mid.facts s.facts in
     let b : new.births ≡ old.births = births ∙ ap (λ (m : ℕ). take m mid.births) (long ∙ sym d.long) ∙ front old.births mid.births s.births in
     ap₂ derived_of f b
+
+-- ---- forms that begin with others
+
+take_own : (n : ℕ) (all : List Form) → take (length (take n all)) all ≡ take n all
+take_own zero all = refl
+take_own (suc n) [] = refl
+take_own (suc n) (form ∷ all) = ap (λ (forms : List Form). form ∷ forms) (take_own n all)
+
+-- where some of the first forms are those, as many of them are
+pub begin_with : (from : ℕ) (all forms : List Form) → take from all ≡ forms → take (length forms) all ≡ forms
+begin_with from all forms e = subst (λ (some : List Form). take (length some) all ≡ some) e (take_own from all)

@@ -3,7 +3,7 @@ ghost use Rattle.inference.specs.PropertyClosures.{IsClosureOf};
 ghost use Rattle.inference.specs.Sameness.{AreGroupsOf};
 ghost use Rattle.inference.specs.Joins.{AreJoins};
 ghost use Rattle.normal_forms.specs.Apart.{no_lists};
-ghost use Rattle.std.specs.Prelude.{◌≡◌, ◌++◌, [], IfOk};
+ghost use Rattle.std.specs.Prelude.{◌≡◌, ◌++◌, [], IfOk, length, take};
 
 use crate::counts::counted;
 use axioms::Memory;
@@ -66,21 +66,22 @@ impl Ground {
         })
     }
 
-    /// These forms and lists, and the same contexts with those that are added.
-    pub(crate) fn grown(
+    /// These forms, which begin with its own, and lists, and the same contexts with those that are added.
+    pub(crate) fn continued(
         &self,
         alloc: Global,
         forms: &FormList,
         apart: &ApartLists,
         roots: &[Context],
     ) -> Result<Ground, Memory>
+        requires { take (length self.now.forms) forms.now ≡ self.now.forms }
         ensures forms { IfOk result (λ g. g.forms ≡ forms.now) }
         ensures apart { IfOk result (λ g. g.apart ≡ apart.now) }
         ensures roots { IfOk result (λ g. g.roots ≡ self.now.roots ++ roots.now) }
     {
         let groups = Groups::of(alloc, forms)?;
         let closure = closed(alloc, forms)?;
-        let problem = self.problem.grown(forms, apart, roots)?;
+        let problem = self.problem.continued(forms, apart, roots)?;
         let joins = Joins::of(alloc, &problem, &closure)?;
         Ok(Ground {
             problem,

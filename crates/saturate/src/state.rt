@@ -105,7 +105,7 @@ impl<W: WorkList> State<W> {
         ensures err { OnErr result (self.new ≡ self.old) }
     {
         self.well_formed();
-        let ground = self.ground.grown(self.alloc, all, apart, roots)?;
+        let ground = self.ground.continued(self.alloc, all, apart, roots)?;
         match carry_on(
             self.alloc,
             self.ground.problem(),
@@ -156,7 +156,7 @@ impl<W: WorkList> State<W> {
         let mut queue = self.queue.copy(list)?;
         let mut facts = self.facts.copy()?;
         let mut index = self.index.copy()?;
-        let ground = self.ground.grown(self.alloc, all, apart, roots)?;
+        let ground = self.ground.continued(self.alloc, all, apart, roots)?;
         carry_on(
             self.alloc,
             self.ground.problem(),

@@ -3,7 +3,7 @@ use Rattle.normal_forms.specs.declared.apart.ApartLists.{ApartLists}
 use Rattle.normal_forms.specs.declared.forms.Form.{Form}
 use Rattle.saturate.specs.GoingOn.{IsBegun}
 use Rattle.saturate.specs.Growth.{with_more, KeepsServed}
-use Rattle.saturate.proofs.Extending.{derived_then, extended, listed_again, parted}
+use Rattle.saturate.proofs.Extending.{begin_with, derived_then, extended, listed_again, parted}
 use Rattle.saturate.proofs.Turns.{named_still}
 use Rattle.saturate.proofs.state.State.grown.Goals as goal
 use Rattle.saturate.proofs.state.State.grown.Goals.{After-problem}
@@ -11,6 +11,9 @@ use Rattle.saturate.proofs.state.State.grown.Goals.{After-problem}
 -- the forms and contexts are those that were there, and those that are added
 grown : (g : _) (c : After-problem g) → c.in_ok-ground.ground ≡ with_more c.self.inside.ground (drop c.args.from c.args.all.now) c.args.apart.now c.args.roots.now
 grown g c = parted c.self.inside.ground c.in_ok-ground.ground c.args.all.now c.args.apart.now c.args.roots.now c.args.from (rw (← c.self.view_is) at c.requires.forms) c.in_ok-ground.ensures.forms c.in_ok-ground.ensures.apart c.in_ok-ground.ensures.roots
+
+pub continued-requires : goal.continued-requires
+continued-requires g c = begin_with c.args.from c.args.all.now c.self.inside.ground.forms (rw (← c.self.view_is) at c.requires.forms)
 
 pub copy-requires-clause-finished : goal.copy-requires-clause-finished
 copy-requires-clause-finished g c =
