@@ -5,6 +5,9 @@ ghost use Rattle.std.specs.Prelude.{◌≡◌, ◌<◌, ◌++◌, ◌∷◌, [],
 use std::alloc::{AllocError, Global};
 use std::marker::Model;
 
+/// How many numbers stand in a list itself.
+const FEW: usize = 3;
+
 /// How many numbers there is room for at first where they are more than three.
 const FIRST_ROOM: usize = 6;
 
@@ -41,6 +44,27 @@ fn many(alloc: Global, numbers: &[u32], number: u32) -> Result<Box<Vec<u32>>, Al
     list.extend_from_slice(numbers)?;
     list.push(number)?;
     let list = Box::new(alloc, list)?;
+    Ok(list)
+}
+
+/// These numbers, with room for no more.
+fn exact(alloc: Global, numbers: &[u32]) -> Result<Box<Vec<u32>>, AllocError>
+    ensures { IfOk result (λ list. list.value.items ≡ numbers.now) }
+{
+    let mut list = Vec::with_capacity(alloc, numbers.len())?;
+    list.extend_from_slice(numbers)?;
+    let list = Box::new(alloc, list)?;
+    Ok(list)
+}
+
+/// These few numbers.
+fn few(alloc: Global, numbers: &[u32]) -> Result<NumberList, AllocError>
+    ensures { IfOk result (λ list. list ≡ numbers.now) }
+{
+    let mut list = NumberList::new();
+    for number in numbers {
+        list.push(alloc, *number)?;
+    }
     Ok(list)
 }
 
@@ -118,6 +142,17 @@ impl NumberList {
         NumberList {
             numbers: Numbers::None,
         }
+    }
+
+    /// These numbers, in order, with room for no more. Fails where memory is refused.
+    pub fn of(alloc: Global, numbers: &[u32]) -> Result<NumberList, AllocError>
+        ensures { IfOk result (λ list. list ≡ numbers.now) }
+    {
+        if numbers.len() <= FEW {
+            return few(alloc, numbers);
+        }
+        let numbers = Numbers::Many(exact(alloc, numbers)?);
+        Ok(NumberList { numbers })
     }
 
     /// The numbers, in order.
