@@ -38,6 +38,20 @@ fn short_and_long_lists(rt: HostRuntime) -> Result<(), Fail> {
 }
 
 #[test]
+fn lists_of_given_numbers(rt: HostRuntime) -> Result<(), Fail> {
+    let numbers = [5, 7, 7, 1, 0, 9];
+    for many in [0, 1, 3, 4, 6] {
+        let mut list = NumberList::of(rt.alloc(), &numbers[..many])?;
+        let is_same = list.as_slice() == &numbers[..many];
+        list.push(rt.alloc(), 3)?;
+        let has_more = list.len() == many + 1 && list.as_slice()[many] == 3;
+        drop(list);
+        assert!(rt; is_same && has_more, "{many}");
+    }
+    Ok(())
+}
+
+#[test]
 fn numbers_come_back(rt: HostRuntime) -> Result<(), Fail> {
     let mut list = counted(rt.alloc(), 5)?;
     for number in [4, 3, 2, 1, 0] {

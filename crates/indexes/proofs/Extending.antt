@@ -13,12 +13,19 @@ use Rattle.indexes.specs.declared.key_lists.KeyLists.{KeyLists}
 use Rattle.indexes.specs.declared.roles.ByRole.{ByRole}
 use Rattle.indexes.specs.FormIndex.{at_key, AreInOrder, Ascend, IsFormIndex, ListsNumbers}
 use Rattle.indexes.specs.FormsUnderKeys.{HasKeyAt}
-use Rattle.indexes.specs.Insertions.{AddsForm, AddsInOrder, AddsLast, AreIndexedTo, AreOrdered, PutsUnder}
+use Rattle.indexes.specs.Insertions.{AddsForm, AddsInOrder, AddsLast, AreOrdered, PutsUnder}
 use Rattle.indexes.specs.Keys.{by_kind, by_alone, by_first, by_second, by_filler, by_chain, by_end, by_plain, by_linked_first, by_linked_second, by_denied}
 use Rattle.indexes.specs.Roles.{ForEach, ForEachTwo}
 use Rattle.indexes.specs.Seconds.{form_rank, rank_at, IsInOrder}
 use Rattle.indexes.proofs.ByRoles.{for_other}
 use Rattle.indexes.proofs.Putting.{each_list, put_cases, put_itself, put_there, same_key}
+
+-- the first so many of the forms are listed, those that have an order in the order of all
+pub record AreIndexedTo (forms : List Form) (many : ℕ) (index : ByRole KeyLists) : Type 0 where
+  pub listed : ForEach (λ key lists. ListsNumbers key (slice_get (take many forms)) lists) index
+  pub first_ascends : Ascend index.first
+  pub second_ascends : Ascend index.second
+  pub ordered : AreOrdered forms index
 
 -- ---- one form more
 

@@ -1,15 +1,14 @@
 -- Numbers that are put into lists.
-use Rattle.std.specs.Prelude.{◌≡◌, ℕ, ◌≤◌, List, length, take, slice_get, Option, Some, None}
+use Rattle.std.specs.Prelude.{◌≡◌, ℕ, ◌≤◌, List, length, Option, Some, None}
 use Rattle.std.specs.List.{insert}
 use Rattle.normal_forms.specs.declared.forms.Form.{Form}
 use Rattle.indexes.specs.declared.keys.Key.{Key}
 use Rattle.indexes.specs.declared.key_lists.KeyLists.{KeyLists}
 use Rattle.indexes.specs.declared.lists.Lists.{Lists}
 use Rattle.indexes.specs.declared.roles.ByRole.{ByRole}
-use Rattle.indexes.specs.FormIndex.{at_key, Ascend, AreInOrder, ListsNumbers}
+use Rattle.indexes.specs.FormIndex.{at_key, AreInOrder}
 use Rattle.indexes.specs.Keys.{by_kind, by_alone, by_first, by_second, by_filler, by_chain, by_end, by_plain, by_linked_first, by_linked_second, by_denied}
 use Rattle.indexes.specs.Lists.{list_at}
-use Rattle.indexes.specs.Roles.{ForEach}
 
 -- the lists have the same numbers
 pub record AreTheSame (old new : Lists) : Type 0 where
@@ -56,10 +55,3 @@ pub record AddsForm (forms : List Form) (old new : ByRole KeyLists) (form : Form
   pub linked_first : AddsLast old.linked_first new.linked_first (by_linked_first form) number
   pub linked_second : AddsLast old.linked_second new.linked_second (by_linked_second form) number
   pub denied : AddsInOrder forms old.denied new.denied (by_denied form) number
-
--- the first so many of the forms are listed, those that have an order in the order of all
-pub record AreIndexedTo (forms : List Form) (many : ℕ) (index : ByRole KeyLists) : Type 0 where
-  pub listed : ForEach (λ key lists. ListsNumbers key (slice_get (take many forms)) lists) index
-  pub first_ascends : Ascend index.first
-  pub second_ascends : Ascend index.second
-  pub ordered : AreOrdered forms index

@@ -104,22 +104,11 @@ fn put(
     push(alloc, lists, place - 1, number)
 }
 
-/// A list of these numbers. Fails where memory is refused.
-fn list_of_numbers(alloc: Global, numbers: &[u32]) -> Result<NumberList, AllocError>
-    ensures { IfOk result (λ list. list ≡ numbers.now) }
-{
-    let mut list = NumberList::new();
-    for number in numbers {
-        list.push(alloc, *number)?;
-    }
-    Ok(list)
-}
-
 /// Puts a list of these numbers behind the others. Fails where memory is refused.
 fn push_copy(alloc: Global, lists: &mut Vec<NumberList>, numbers: &[u32]) -> Result<(), AllocError>
     ensures { OnOk result (lists.new.items ≡ lists.old.items ++ numbers.now ∷ []) }
 {
-    let list = list_of_numbers(alloc, numbers)?;
+    let list = NumberList::of(alloc, numbers)?;
     let Ok(()) = lists.push(list) else {
         return Err(AllocError);
     };

@@ -1,4 +1,4 @@
-use Rattle.indexes.specs.Insertions.{AreIndexedTo}
+use Rattle.indexes.proofs.Extending.{AreIndexedTo}
 use Rattle.indexes.proofs.grown_index.listed_more.Given as goal
 
 abbrev pub invariant-loop-number : goal.invariant-loop-number
