@@ -18,3 +18,4 @@ pub mod Restrictions
 pub mod Marking
 pub mod Flagging
 pub mod Planning
+pub mod ClassNumbers

@@ -14,3 +14,4 @@ pub mod Differences
 pub mod Flags
 pub mod Led
 pub mod Premises
+pub mod ClassNumbers

@@ -1,18 +1,19 @@
 //! The facts so far, and what gave them.
 ghost use Rattle.facts.specs.Births.{reason};
 ghost use Rattle.inference.specs.Derivations.{with_fact};
+ghost use Rattle.inference.specs.ClassNumbers.{IsAboveClasses};
 ghost use Rattle.inference.specs.Flags.{HasEntryFacts};
 ghost use Rattle.inference.specs.Marks.{AreMarks, IsMark};
 ghost use Rattle.inference.specs.Visits.{IsBy};
 ghost use Rattle.facts.specs.declared.contexts.Fact.{Fact as Fact2};
 ghost use Rattle.normal_forms.specs.declared.forms.PropId2.TheVariants as properties;
 ghost use Rattle.inference.specs.declared.known_facts.Stop.TheVariants as stops;
-ghost use Rattle.std.specs.Prelude.{◌≡◌, ◌<◌, ◌^◌, Some, [], length, map, take, slice_get, Contains, Ok, IfOk, IfSome, IsNone, OnErr, false, true};
+ghost use Rattle.std.specs.Prelude.{◌≡◌, ◌<◌, ◌^◌, ◌∷◌, Some, [], length, map, take, slice_get, Contains, Ok, IfOk, IfSome, IsNone, OnErr, false, true};
 
 use crate::context_flags::ContextFlags;
 use axioms::{Memory, PropId};
 use facts::{Birth, Context, Fact, FactTable, StoredFact};
-use normal_forms::PropId2;
+use normal_forms::{Class2, PropId2};
 use std::alloc::Global;
 use std::hash::RandomState;
 use std::marker::Model;
@@ -46,10 +47,13 @@ pub struct KnownFacts {
     marks: Vec<u16>,
     /// Contexts that are known to have what is in each context.
     entered: ContextFlags,
+    /// A number above that of each expression into which a fact puts something.
+    end: usize,
 }
 
 impl Model for KnownFacts {
     ghost use Rattle.facts.specs.Births.{reason};
+    ghost use Rattle.inference.specs.ClassNumbers.{IsAboveClasses};
     ghost use Rattle.inference.specs.Derivations.{Derived};
     ghost use Rattle.inference.specs.Flags.{AreFlags};
     ghost use Rattle.inference.specs.Marks.{AreMarks};
@@ -59,7 +63,17 @@ impl Model for KnownFacts {
 
     ghost view = { λ s. record { facts = s.facts; births = map reason s.births.items } };
 
-    ghost invariant = { λ s. AreMarks s.facts s.marks.items × AreFlags (record { facts = s.facts; births = map reason s.births.items }) s.entered };
+    ghost invariant = { λ s. AreMarks s.facts s.marks.items × AreFlags (record { facts = s.facts; births = map reason s.births.items }) s.entered × IsAboveClasses s.end s.facts };
+}
+
+/// The number behind that of the expression into which the fact puts something, or 0 where it does so into none.
+fn end_of(fact: Fact) -> usize
+    ensures { IsAboveClasses result (fact ∷ []) }
+{
+    match fact {
+        Fact::In(Class2::Expr(class), _) => class.index() + 1,
+        Fact::In(Class2::Partial(_), _) | Fact::Edge(..) => 0,
+    }
 }
 
 /// The mark of a fact of which it tells nothing.
@@ -109,6 +123,7 @@ impl KnownFacts {
             births: Vec::new(alloc),
             marks: Vec::new(alloc),
             entered: ContextFlags::new(alloc),
+            end: 0,
         }
     }
 
@@ -128,6 +143,7 @@ impl KnownFacts {
             births,
             marks: Vec::new(alloc),
             entered: ContextFlags::new(alloc),
+            end: self.end,
         })
     }
 
@@ -150,6 +166,13 @@ impl KnownFacts {
         ensures few { result < 2 ^ 32 }
     {
         self.facts.len()
+    }
+
+    /// A number above that of each expression into which one of the facts puts something.
+    pub fn classes_end(&self) -> usize
+        ensures { IsAboveClasses result self.now.facts }
+    {
+        self.end
     }
 
     /// The fact of that number.
@@ -185,6 +208,7 @@ impl KnownFacts {
             births,
             marks: _,
             entered: _,
+            end: _,
         } = self;
         (facts.into_list(), births)
     }
@@ -227,6 +251,7 @@ impl KnownFacts {
         let is_new = self.facts.insert(fact)?;
         if is_new {
             self.births.push_reserved(birth);
+            self.end = self.end.max(end_of(fact));
         }
         Ok(is_new)
     }

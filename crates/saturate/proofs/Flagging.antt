@@ -12,7 +12,7 @@ use Rattle.saturate.specs.Requests.{IsAsked, IsAskedAnew, IsAskedByForm, IsNew, 
 use Rattle.saturate.specs.Flags.{AreThoseFlagged, HasOneFlagMore, IsFlagged, is_flagged, is_kept, kept}
 use Rattle.saturate.specs.Growth.{KeepsServed}
 use Rattle.inference.proofs.Lists.{one_value}
-use Rattle.lemmas.proofs.Members.{Contains-none}
+use Rattle.lemmas.proofs.Members.{Contains-from_slice_get, Contains-none}
 
 -- one flag more: its fact is such
 pub flag_more : (P : Fact → Type 0) (facts : List Fact) (flags new : List Bool) (i : ℕ) (f : Fact) → slice_get facts i ≡ Some f → P f → HasOneFlagMore i flags new
@@ -33,10 +33,10 @@ none_past flags new i more past n high =
     more.others n ne ∙ past n (omega (arith, high))
 
 -- no flag at all: no fact is such
-pub nothing_flagged : (P : Fact → Type 0) (facts : List Fact) (flags : List Bool) (n : ℕ) → is_flagged flags n ≡ false → ((f : Fact) → ¬ P f) → IsFlagged P facts flags n
+pub nothing_flagged : (P : Fact → Type 0) (facts : List Fact) (flags : List Bool) (n : ℕ) → is_flagged flags n ≡ false → ((f : Fact) → Contains facts f → ¬ P f) → IsFlagged P facts flags n
 nothing_flagged P facts flags n off none = record {
   yes = λ e. absurd (false≢true (sym off ∙ e));
-  no = λ _ h. none h.0 h.2;
+  no = λ _ h. none h.0 (Contains-from_slice_get facts n h.0 h.1) h.2;
 }
 
 -- no flag more: the fact is not such

@@ -1,5 +1,5 @@
 -- Which facts forms and lists of disjoint classes that are added ask for: what they give with others has to be drawn again.
-use Rattle.std.specs.Prelude.{◌≡◌, ◌⊎◌, ◌↔◌, ◌<◌, ℕ, Bool, true, List, length, slice_get, Some}
+use Rattle.std.specs.Prelude.{◌≡◌, ◌⊎◌, ◌↔◌, ◌<◌, ◌≤◌, ℕ, Bool, true, List, length, slice_get, Some}
 use Rattle.std.specs.List.{Contains}
 use Rattle.axioms.specs.declared.ids.ExprId.{ExprId}
 use Rattle.axioms.specs.declared.ids.IndId.{IndId}
@@ -77,6 +77,18 @@ AsksNothing form = (forms : List Form) (f : Fact) → ¬ Asks forms form f
 -- the form asks for no edge
 abbrev pub AsksForNoEdge : Form → Type 0
 AsksForNoEdge form = (forms : List Form) (x : Context) (p : PropId2) (y : Context) → ¬ Asks forms form (Edge x p y)
+
+-- the class is an expression whose number is not below that
+abbrev pub IsLater : ℕ → Class2 → Type 0
+IsLater end a = (e : ExprId) × (a ≡ Expr e) × (end ≤ e.0)
+
+-- the fact puts something into such a class
+abbrev pub IsInLater : ℕ → Fact → Type 0
+IsInLater end f = (a : Class2) × (x : Context) × (f ≡ In a x) × IsLater end a
+
+-- the form asks for such facts alone
+abbrev pub AsksForLater : ℕ → Form → Type 0
+AsksForLater end form = (forms : List Form) (f : Fact) → Asks forms form f → IsInLater end f
 
 -- none of the forms asks for an edge
 abbrev pub LeaveEdges : List Form → Type 0

@@ -264,19 +264,6 @@ fn asks_for_edge(
         || asks_for_denied(added, closure, source, property, target)
 }
 
-/// Whether there is no added form and no added list of disjoint classes.
-pub(crate) fn ask_for_nothing(added: &IndexedProblem) -> bool
-    ensures { result ≡ true → (all : List Form2) (fact : Fact2) → IsAsked all added.now fact → ⊥ }
-{
-    if added.forms().len() > 0 {
-        return false;
-    }
-    if added.apart().classes.len() > 0 {
-        return false;
-    }
-    true
-}
-
 /// Whether a form of this kind may ask for edges.
 fn may_ask_for_edges(form: Form) -> bool
     ensures { result ≡ false → AsksForNoEdge form }

@@ -12,9 +12,10 @@ ghost use Rattle.inference.specs.Completeness.{AreEntered, IsCompleteUpToRedunda
 ghost use Rattle.inference.specs.Draws.{Draws};
 ghost use Rattle.std.specs.Prelude.{◌≡◌, ◌<◌, ◌≤◌, ◌++◌, ℕ, Contains, List, IfOk, OnErr, OnOk, Some, length, take, true};
 
-use crate::additions::{ask_for_nothing, asks_for, may_ask_for_some_edges};
+use crate::additions::{asks_for, may_ask_for_some_edges};
 use crate::flags::Flags;
 use crate::ground::Ground;
+use crate::later_classes::ask_for_later_classes;
 use crate::named_classes::named_classes;
 use crate::new_forms::new_forms;
 use crate::new_lists::new_lists;
@@ -38,7 +39,7 @@ fn flagged(
     ensures few { IfOk result (λ flags. length flags ≤ length facts.now.facts) }
     ensures flags { IfOk result (λ flags. (n : ℕ) → n < length facts.now.facts → IsFlagged (IsAsked ground.now.forms added.now) facts.now.facts flags n) }
 {
-    if ask_for_nothing(added) {
+    if ask_for_later_classes(added, facts.classes_end()) {
         return Flags::new(alloc, 0);
     }
     let closure = ground.closure();

@@ -7,6 +7,7 @@ mod extension;
 mod finished;
 mod flags;
 mod ground;
+mod later_classes;
 mod laws;
 mod listed_facts;
 mod named_classes;

@@ -13,7 +13,7 @@ use number_sets::{PackedLists, Row};
 use std::alloc::Global;
 
 /// The class that the form names, if it names one.
-fn class_named(form: Form) -> Option<Class2>
+pub(crate) fn class_named(form: Form) -> Option<Class2>
     ensures { (class : AClass) → NamesClass form class ↔ (result ≡ Some class) }
 {
     match form {

@@ -2,6 +2,7 @@ use Rattle.std.proofs.Common.{arith}
 use Rattle.inference.proofs.Edges.{has_property}
 use Rattle.saturate.specs.Requests.{IsAsked}
 use Rattle.std.proofs.lemmas.Result.{IfOk-weaker}
+use Rattle.saturate.proofs.Asking.{none_later}
 use Rattle.saturate.proofs.Flagging.{flag_more, flag_none, is_none, none_past, nothing_flagged}
 use Rattle.saturate.proofs.extension.flagged.Goals as goal
 use Rattle.saturate.proofs.extension.flagged.Goals.{then-asks_for+in_ok-add, else-asks_for}
@@ -33,9 +34,11 @@ loop-place-preserved c =
       })
     ]
 
-pub returns-then-ask_for_nothing-clause-flags : goal.returns-then-ask_for_nothing-clause-flags
-returns-then-ask_for_nothing-clause-flags c =
+pub returns-then-ask_for_later_classes-clause-flags : goal.returns-then-ask_for_later_classes-clause-flags
+returns-then-ask_for_later_classes-clause-flags c =
     let all = c.args.ground.now.forms in
+    let facts = c.args.facts.now.facts in
+    let end = c.classes_end.result in
     IfOk-weaker c.new.result _ _
-    (λ flags is n low. nothing_flagged (IsAsked all c.args.added.now) c.args.facts.now.facts flags n (rw is (is_none 0 n)) (c.ask_for_nothing.ensures c.if-ask_for_nothing.true all))
+    (λ flags is n low. nothing_flagged (IsAsked all c.args.added.now) facts flags n (rw is (is_none 0 n)) (λ f there asked. none_later end facts f c.classes_end.ensures there (c.ask_for_later_classes.ensures c.if-ask_for_later_classes.true all f asked)))
     c.new.ensures
