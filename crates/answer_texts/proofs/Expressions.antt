@@ -1,7 +1,7 @@
 -- The text of an intersection, operand by operand.
-use Rattle.std.proofs.Common.{◌≡◌, ℕ, ◌+◌, ◌<◌, ◌≤◌, List, [], ◌∷◌, ◌++◌, length, drop, get_or, ap, sym, ◌∙◌, arith, append_assoc}
+use Rattle.std.proofs.Common.{◌≡◌, ℕ, ◌+◌, ◌<◌, ◌≤◌, List, [], ◌∷◌, ◌++◌, length, ap, sym, ◌∙◌, arith, append_assoc}
 use Rattle.std.specs.Prelude.{codes}
-use Rattle.std.proofs.lemmas.List.{append-nil, at_drop_more}
+use Rattle.std.proofs.lemmas.List.{append-nil}
 use Rattle.axioms.specs.declared.ids.ExprId.{ExprId}
 use Rattle.axioms.specs.View.{expr_numbers}
 use Rattle.axioms.specs.Ontology.{Ontology, operands_of, intersection, expression, expressions}
@@ -32,13 +32,6 @@ pub intersection_text : (o : Ontology) (es : List ExprId) → 2 ≤ length es
 intersection_text o [] l = absurd (omega arith)
 intersection_text o (a ∷ []) l = absurd (omega arith)
 intersection_text o (a ∷ b ∷ es) l = ap (λ (t : List ℕ). t ++ codes ")") (operands o (codes "ObjectIntersectionOf(") a b es)
-
-pub texts_more : (o : Ontology) (lead : List ℕ) (es : List ExprId) (i : ℕ) (d : ExprId) → i < length es
-    → texts o lead (drop i es) ≡ lead ++ expression_text (expression o (get_or es i d).0) ++ texts o (codes " ") (drop (i + 1) es)
-texts_more o lead es i d l = at_drop_more (texts o lead) es i d l
-
-pub written_more : (out lead text rest : List ℕ) → ((out ++ lead) ++ text) ++ rest ≡ out ++ (lead ++ text ++ rest)
-written_more out lead text rest = simp append_assoc
 
 pub five_pieces : (out a b c d e : List ℕ) → ((((out ++ a) ++ b) ++ c) ++ d) ++ e ≡ out ++ ((((a ++ b) ++ c) ++ d) ++ e)
 five_pieces out a b c d e = simp append_assoc

@@ -1,9 +1,9 @@
 -- The text of a form, operand by operand.
-use Rattle.std.proofs.Common.{◌≡◌, ℕ, ◌+◌, ◌<◌, ◌≤◌, List, [], ◌∷◌, ◌++◌, if◌then◌else◌, Result, OnOk, length, drop, get_or, map, refl, ap, sym, ◌∙◌, append_assoc}
+use Rattle.std.proofs.Common.{◌≡◌, ℕ, ◌+◌, ◌<◌, ◌≤◌, List, [], ◌∷◌, ◌++◌, if◌then◌else◌, Result, OnOk, length, drop, map, refl, ap, sym, ◌∙◌, append_assoc}
 use Rattle.std.specs.Prelude.{codes}
 use Rattle.std.specs.List.{flat_map, join_by}
 use Rattle.std.specs.Result.{is_ok}
-use Rattle.std.proofs.lemmas.List.{append-nil, at_drop_more, at_drop_all}
+use Rattle.std.proofs.lemmas.List.{append-nil, at_drop_all}
 use Rattle.std.proofs.lemmas.Simd.{map-map}
 use Rattle.answer_texts.specs.Axioms.{form}
 use Rattle.answer_texts.proofs.More.{on_ok}
@@ -12,10 +12,6 @@ use Rattle.answer_texts.proofs.More.{on_ok}
 abbrev pub pieces : {X : Type 0} → (X → List ℕ) → List ℕ → List X → List ℕ
 pieces f lead [] = []
 pieces f lead (x ∷ xs) = lead ++ f x ++ pieces f (codes " ") xs
-
-pub pieces_more : {X : Type 0} (f : X → List ℕ) (lead : List ℕ) (xs : List X) (i : ℕ) (d : X) → i < length xs
-    → pieces f lead (drop i xs) ≡ lead ++ f (get_or xs i d) ++ pieces f (codes " ") (drop (i + 1) xs)
-pieces_more f lead xs i d l = at_drop_more (pieces f lead) xs i d l
 
 later : {X : Type 0} (f : X → List ℕ) (xs : List X) → pieces f (codes " ") xs ≡ flat_map (λ t. codes " " ++ t) (map f xs)
 later f [] = refl

@@ -1,7 +1,7 @@
 -- Conditions that axioms state, one after the other.
-use Rattle.std.proofs.Common.{◌≡◌, ◌==◌, ◌||◌, not, ℕ, ◌+◌, ◌<◌, Bool, true, false, List, [], ◌∷◌, ◌++◌, if◌then◌else◌, drop, take, get_or, length, map, refl, sym, ap, ◌∙◌, arith}
+use Rattle.std.proofs.Common.{◌≡◌, ◌==◌, ◌||◌, ℕ, ◌+◌, ◌<◌, Bool, true, false, List, [], ◌∷◌, ◌++◌, if◌then◌else◌, take, get_or, length, map, refl, sym, ap, ◌∙◌, arith}
 use Rattle.std.specs.List.{enumerate_from, flat_map, list_any}
-use Rattle.std.proofs.lemmas.List.{append-nil, at_drop_more, length-map, length-take, map-append, take_more}
+use Rattle.std.proofs.lemmas.List.{append-nil, length-map, length-take, map-append, take_more}
 use Rattle.std.proofs.lemmas.List.Concat.{flat_map-append}
 use Rattle.lemmas.proofs.Ranges.{enumerate_push}
 use Rattle.axioms.specs.Ontology.{EquivalentClasses}
@@ -13,21 +13,6 @@ use Rattle.answers.specs.Conditions.{numbered_conditions, others}
 -- with the number of the axiom
 abbrev pub stated_by : (number e : ℕ) → List ExprId → List (ℕ × ℕ)
 stated_by number e xs = map (λ f. (number, f)) (others e (expr_numbers xs))
-
-pub stated_skip : (number e : ℕ) (xs : List ExprId) (i : ℕ) (d : ExprId) → i < length xs → d ≡ get_or xs i d → ((d.0 == e) ≡ true)
-    → stated_by number e (drop i xs) ≡ stated_by number e (drop (i + 1) xs)
-stated_skip number e xs i d l is same =
-    let x : (get_or xs i d).0 == e ≡ true = ap (λ (x : ExprId). x.0 == e) (sym is) ∙ same in
-    at_drop_more (stated_by number e) xs i d l
-    ∙ ap (λ b. map (λ f. (number, f)) (if not b then (get_or xs i d).0 ∷ others e (expr_numbers (drop (i + 1) xs)) else others e (expr_numbers (drop (i + 1) xs)))) x
-
-pub stated_take : (number e : ℕ) (xs : List ExprId) (i : ℕ) (d : ExprId) → i < length xs → d ≡ get_or xs i d → ((d.0 == e) ≡ false)
-    → stated_by number e (drop i xs) ≡ (number, d.0) ∷ stated_by number e (drop (i + 1) xs)
-stated_take number e xs i d l is other =
-    let x : (get_or xs i d).0 == e ≡ false = ap (λ (x : ExprId). x.0 == e) (sym is) ∙ other in
-    at_drop_more (stated_by number e) xs i d l
-    ∙ ap (λ b. map (λ f. (number, f)) (if not b then (get_or xs i d).0 ∷ others e (expr_numbers (drop (i + 1) xs)) else others e (expr_numbers (drop (i + 1) xs)))) x
-    ∙ ap (λ (x : ExprId). (number, x.0) ∷ stated_by number e (drop (i + 1) xs)) (sym is)
 
 -- ---- of an axiom
 

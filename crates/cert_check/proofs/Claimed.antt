@@ -1,9 +1,9 @@
 -- The claims of a listed interpretation, by lists: what each test of a class or an individual says of the interpretation.
-use Rattle.std.proofs.Common.{◌≡◌, ◌↔◌, ℕ, zero, suc, ◌+◌, ◌<◌, ◌≤◌, ◌⊎◌, inl, inr, Bool, true, false, List, [], ◌∷◌, ◌++◌, length, map, take, get_or, set, slice_get, replicate, Option, Some, None, Contains, refl, sym, ap, ap₂, ◌∙◌, subst, arith}
+use Rattle.std.proofs.Common.{◌≡◌, ◌↔◌, ℕ, zero, suc, ◌+◌, ◌<◌, ◌≤◌, ◌⊎◌, inl, inr, Bool, true, false, List, [], ◌∷◌, ◌++◌, length, map, take, get_or, set, slice_get, Option, Some, None, Contains, refl, sym, ap, ap₂, ◌∙◌, subst, arith}
 use Rattle.std.proofs.lemmas.Bool.{cases_eq, false≢true}
-use Rattle.std.proofs.lemmas.List.{length-set, length-replicate, take-map}
+use Rattle.std.proofs.lemmas.List.{length-set, take-map}
 use Rattle.std.proofs.lemmas.List.Elements.{All-contains}
-use Rattle.std.proofs.lemmas.Option.{none-some, same_Some, slice_get_within, slice_get-get_or}
+use Rattle.std.proofs.lemmas.Option.{same_Some, slice_get_within, slice_get-get_or}
 use Rattle.std.specs.Cmp.{both_ways}
 use Rattle.lemmas.proofs.Mapped.{slice_get_map}
 use Rattle.lemmas.proofs.Members.{Contains-from_slice_get, slice_get-from_Contains}
@@ -31,17 +31,6 @@ use Rattle.cert_check.proofs.Relations.{below_line, type_line}
 use Rattle.cert_check.proofs.ListedRows.{one_place, listed_member, member_by_class}
 
 -- ---- the claims by class
-
-no_claim : (n c x : ℕ) → slice_get (replicate n None) c ≡ Some (Some x) → ⊥
-no_claim zero c x e = none-some (Some x) e
-no_claim (suc n) zero x e = none-some x (same_Some None (Some x) e)
-no_claim (suc n) (suc c) x e = no_claim n c x e
-
-pub claimed_none : (o : Ontology) (claimed : List (Option ℕ)) → claimed ≡ replicate (length o.names.classes) None → AreClaimed o [] claimed
-claimed_none o claimed same = rw same (record {
-  long = length-replicate (length o.names.classes) None;
-  each = λ c e x g. (λ s. absurd (no_claim (length o.names.classes) c x s), λ k. (let l = k.1 in absurd (omega arith)));
-})
 
 -- nothing was claimed before for the class of a claim
 pub fresh : (claims : List (ℕ × ℕ)) → Ascends (map (λ c. c.0) claims) → (i : ℕ) (claim : ℕ × ℕ) → slice_get claims i ≡ Some claim

@@ -35,9 +35,6 @@ none_read source = record { lost = ([], Consumes-nil source.left, omega arith); 
 
 -- ---- one line after another
 
-pub none_come : (reading : Reading) (source : SourceState) → HaveCome reading reading source source []
-none_come reading source = record { ontology = refl; most_premises = refl; behind = λ start h. h }
-
 pub one_more_comes : (first old new : Reading) (source before after : SourceState) (lines : List Line) (kept : Line) → HaveCome first old source before lines
     → (n : IsNextLine old new before after kept) → HaveCome first new source after (lines ++ n.full ∷ [])
 one_more_comes first old new source before after lines kept h n = record {

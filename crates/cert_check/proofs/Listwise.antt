@@ -1,7 +1,7 @@
 -- Lists to which numbers are added.
 use Rattle.std.proofs.Common.{◌≡◌, ◌↔◌, ℕ, zero, suc, ◌+◌, ◌<◌, ◌⊎◌, inl, inr, true, false, List, [], ◌∷◌, ◌++◌, length, map, take, slice_get, slice_set, replicate, Some, Contains, refl, sym, ap, ◌∙◌, subst, arith}
-use Rattle.std.proofs.lemmas.Bool.{cases_eq, cases_lt, false≢true}
-use Rattle.std.proofs.lemmas.List.{length-set, get_or-set_same, get_or-set_other, length-replicate}
+use Rattle.std.proofs.lemmas.Bool.{cases_eq, false≢true}
+use Rattle.std.proofs.lemmas.List.{length-set, get_or-set_same, get_or-set_other}
 use Rattle.lemmas.proofs.Places.{slice_get_push, keeps_push, slice_get_push_cases}
 use Rattle.axioms.specs.Ontology.{Ontology, IsClassAt}
 use Rattle.axioms.proofs.Trees.{one_class}
@@ -9,10 +9,10 @@ use Rattle.certificate.specs.Certificate.{Conclusion, Sub, Expression, Individua
 use Rattle.certificate.specs.View.{class_row_of}
 use Rattle.certificate.specs.declared.listed.ClassRow.{ClassRow}
 use Rattle.number_sets.specs.Pieces.{list_at}
-use Rattle.cert_check.specs.Additions.{SomeRow, ListsMember, thing_class}
+use Rattle.cert_check.specs.Additions.{SomeRow, ListsMember}
 use Rattle.cert_check.specs.Lists.{has_number, AddsNumbers, PutsBelow, PutsInto, AreSuperclasses, AreTypes, AreElementClasses}
 use Rattle.taxonomy.specs.Relation.{is_listed}
-use Rattle.cert_check.proofs.Additions.{any_first, some_none, some_next, step_both, contains_next}
+use Rattle.cert_check.proofs.Additions.{any_first, some_next, step_both, contains_next}
 
 -- ---- one more number
 
@@ -99,9 +99,6 @@ no_list (suc n) (suc k) d = no_list n k d
 abbrev pub Say : (ℕ → ℕ → Conclusion → Type 0) → List Conclusion → List (List ℕ) → Type 0
 Say puts said lists = (c d : ℕ) → c < length lists → (is_listed lists c d ≡ true) ↔ SomeRow said (puts c d)
 
-pub say_none : (puts : ℕ → ℕ → Conclusion → Type 0) (n : ℕ) → Say puts [] (replicate n [])
-say_none puts n c d lc = (λ t. absurd (false≢true (sym (no_list n c d) ∙ t)), λ s. absurd (some_none (puts c d) s))
-
 -- some row does among these and one more
 pub some_push : {A : Type 0} (P : A → Type 0) (xs : List A) (x : A) → SomeRow (xs ++ x ∷ []) P ↔ (SomeRow xs P ⊎ P x)
 some_push P xs x = (
@@ -124,20 +121,12 @@ say_push puts said a old new adds says c d lc =
       λ s. elim (line.0 s) [ inl u ↦ (adds.each c d lo).1 (inl ((says c d lo).1 u)) | inr p ↦ (adds.each c d lo).1 (inr p) ],
     )
 
-pub superclasses_start : (o : Ontology) (n : ℕ) (lists : List (List ℕ)) → lists ≡ replicate n [] → n ≡ length o.names.classes → AreSuperclasses o [] lists
-superclasses_start o n lists e many =
-    subst (AreSuperclasses o []) (sym e) (record { long = length-replicate n [] ∙ many; each = say_none (λ c d a. PutsBelow o a c d) n })
-
 pub superclasses_push : (o : Ontology) (said : List Conclusion) (a : Conclusion) (old new : List (List ℕ)) → AddsNumbers (PutsBelow o a) old new
     → AreSuperclasses o said old → AreSuperclasses o (said ++ a ∷ []) new
 superclasses_push o said a old new adds before = record {
   long = adds.long ∙ before.long;
   each = say_push (λ c d b. PutsBelow o b c d) said a old new adds before.each;
 }
-
-pub types_start : (o : Ontology) (n : ℕ) (lists : List (List ℕ)) → lists ≡ replicate n [] → n ≡ length o.names.individuals → AreTypes o [] lists
-types_start o n lists e many =
-    subst (AreTypes o []) (sym e) (record { long = length-replicate n [] ∙ many; each = say_none (λ c d a. PutsInto o a c d) n })
 
 pub types_push : (o : Ontology) (said : List Conclusion) (a : Conclusion) (old new : List (List ℕ)) → AddsNumbers (PutsInto o a) old new
     → AreTypes o said old → AreTypes o (said ++ a ∷ []) new
@@ -147,27 +136,6 @@ types_push o said a old new adds before = record {
 }
 
 -- ---- the classes of elements
-
--- of so many lists, each of the first has owl:Thing, and no other has a number
-pub thing_more : (lists : List (List ℕ)) (k : ℕ) → k < length lists
-    → ((x c : ℕ) → x < length lists → (is_listed lists x c ≡ true) ↔ ((x < k) × (c ≡ thing_class)))
-    → (x c : ℕ) → x < length (with_listed lists k thing_class) → (is_listed (with_listed lists k thing_class) x c ≡ true) ↔ ((x < k + 1) × (c ≡ thing_class))
-thing_more lists k l before x c lx =
-    let lo : x < length lists = subst (λ n. x < n) (length-set lists k (list_at lists k ++ thing_class ∷ [])) lx in
-    let more = one_more lists k thing_class x c lo in
-    let old = before x c lo in (
-      λ t. elim (more.0 t) [
-        | inl u ↦ (let p = old.0 u in let q = p.0 in (omega arith, p.1))
-        | inr p ↦ (let q = p.0 in (omega arith, p.1))
-      ],
-      λ p. elim (cases_eq x k) [
-        | inl e ↦ more.1 (inr (e, p.1))
-        | inr ne ↦ (let q = p.0 in more.1 (inl (old.1 (below_other x k q ne, p.1))))
-      ],
-    )
-  where
-    below_other : (x k : ℕ) → x < k + 1 → (x ≡ k → ⊥) → x < k
-    below_other x k l ne = elim (cases_lt x k) [ inl h ↦ h | inr h ↦ absurd (ne (omega arith)) ]
 
 pub holder_step : (o : Ontology) (e class : ℕ) → IsClassAt o class e → (xs : List ℕ) (k x : ℕ) → slice_get xs k ≡ Some x → (old mid new : List (List ℕ))
     → new ≡ with_listed mid x class

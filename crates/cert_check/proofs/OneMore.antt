@@ -140,6 +140,3 @@ texts_against t i lines (Some (IndividualDisagrees c)) h x = absurd x
 pub contradiction_shown : (t i : List ℕ) (shown : Bool) (reason : Option Reason) → shown ≡ true
     → TextsAgainst t i inconsistent_taxonomy_text inconsistent_instances_text reason → ContradictionAgainstShown t i shown reason
 contradiction_shown t i shown reason e x lines is = texts_against t i lines reason (is.0 e) x
-
-pub no_contradiction_shown : (t i : List ℕ) (shown : Bool) → shown ≡ false → ContradictionAgainstShown t i shown (Some NoContradiction)
-no_contradiction_shown t i shown e lines is c = false≢true (sym e ∙ is.1 c)

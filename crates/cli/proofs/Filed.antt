@@ -7,11 +7,9 @@ use Rattle.cli.proofs.Blamed.{AreCounted, AreWorking, none, untouched, written_n
 use Rattle.cli.proofs.SomeTexts.{acceptable_are_some}
 use Rattle.cli.proofs.Stored.{AreNew, AreSinksClosed, nothing_stored, texts_held, texts_held_until}
 use Rattle.cli.specs.Filing.{BlamesTexts, Filed, IsBegunIn, IsFiledBy, IsFiledIn, IsRunOn, IsTextsAnswer, filed, filing_service, is_run}
-use Rattle.telling.specs.Printing.{IsPrinted}
 use Rattle.cli.specs.declared.filing.FileService.{FileService}
 use Rattle.command_line.specs.declared.tasks.Paths.{Paths}
 use Rattle.device.specs.declared.device.Sink as sinks
-use Rattle.program.specs.Status.{code_of}
 use Rattle.program.specs.declared.limits.Limits.{Limits}
 use Rattle.program.specs.declared.status.Status.{Status}
 use Rattle.program.specs.declared.status.Status.TheVariants as statuses
@@ -19,7 +17,7 @@ use Rattle.program.specs.declared.version.Version.{Version}
 use Rattle.session.proofs.Calls.{edits_are_one_document}
 use Rattle.telling.proofs.Told.{progress_behind}
 use Rattle.session.specs.Answers.{IsWritten}
-use Rattle.telling.specs.Devices.{Device, Takes, seen}
+use Rattle.telling.specs.Devices.{Device, seen}
 use Rattle.session.specs.Edits.{Reply, Added, Resumed, Answered, Found, Entailed, Decided, Written, Inferred, Resume, IsCall, IsOneDocument, IsSessionOver}
 use Rattle.telling.specs.Progress.{IsProgress}
 use Rattle.session.specs.Sessions.{IsSession, KeepsText, Opened}
@@ -63,13 +61,6 @@ texts_blamed s format failed_before failed_behind old new (Ok summary) working c
 texts_blamed s format failed_before failed_behind old new (Err Unfinished) working counted is = none new _ _ counted (untouched old new working is.1)
 texts_blamed s format failed_before failed_behind old new (Err Memory) working counted is = none new _ _ counted (untouched old new working is.1)
 texts_blamed s format failed_before failed_behind old new (Err (Io n)) working counted is = written_some n old new is.2.1 _ _ working counted is.2.3
-
--- ---- what is told
-
--- where the status is that of all being printed, all is
-pub printed_whole : (old new : Device) (text : List ℕ) (answered : ℕ) → IsPrinted old new text statuses.Done answered → answered ≡ code_of statuses.Done → Takes old new text
-printed_whole old new text answered (inl h) done = h.0
-printed_whole old new text answered (inr h) done = let bad : code_of statuses.Done ≡ code_of statuses.File = sym done ∙ h.1 in absurd (cc)
 
 -- ---- conversations
 

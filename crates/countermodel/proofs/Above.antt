@@ -31,9 +31,6 @@ triple r x y = record { property = r; source = x; target = y }
 
 -- ---- the pair with one property
 
-pub not_with : (W : Pair → Type 0) (r : PropId2) (p : Pair) (old : List (List ℕ)) → ((id : PropId) → r ≡ Property id → ⊥) → AddsPairs (λ q. IsWith r p q × W q) old old
-not_with W r p old other q = (λ c. inl c, λ h. elim h [ inl was ↦ was | inr (is, w) ↦ absurd (other q.property is.0) ])
-
 same_triple : (r : PropId2) (id : PropId) (p q : Pair) → r ≡ Property id → IsWith r p q → q ≡ triple id p.source p.target
 same_triple r id p q e (is, s, t) =
     let same : Property q.property ≡ Property id = sym is ∙ e in

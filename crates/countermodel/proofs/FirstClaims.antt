@@ -5,7 +5,7 @@ use Rattle.std.proofs.lemmas.List.{map-append}
 use Rattle.std.proofs.lemmas.List.Elements.{Contains-append_left, Contains-push, Contains-push_cases}
 use Rattle.std.proofs.lemmas.Option.{slice_get_within}
 use Rattle.lemmas.proofs.Mapped.{slice_get_map_from}
-use Rattle.lemmas.proofs.Members.{Contains-none, Contains-from_slice_get}
+use Rattle.lemmas.proofs.Members.{Contains-from_slice_get}
 use Rattle.axioms.specs.Ontology.{Ontology, Class}
 use Rattle.certificate.specs.Writability.{Ascends}
 use Rattle.closure.specs.Closure.{Context, Expression}
@@ -22,9 +22,6 @@ pub record AreFirstClaims (o : Ontology) (elements : List Context) (count : ℕ)
   pub all : (e m : ℕ) → e < count → IsOwnElement o elements e m → Contains claims (e, m)
 
 module _ (o : Ontology) (elements : List Context) where
-  pub no_claims : AreFirstClaims o elements 0 []
-  no_claims = record { ascend = tt; each = λ e m h. absurd (Contains-none (e, m) h); all = λ e m l. absurd (omega arith) }
-
   module _ (count : ℕ) (claims : List (ℕ × ℕ)) (are : AreFirstClaims o elements count claims) where
     pub none_claimed : ((m : ℕ) → IsOwnElement o elements count m → ⊥) → AreFirstClaims o elements (count + 1) claims
     none_claimed never = record {

@@ -1,9 +1,9 @@
 -- Expressions that are placed in order, by their numbers.
-use Rattle.std.proofs.Common.{◌≡◌, ◌↔◌, ℕ, ◌+◌, ◌<◌, ◌≤◌, ◌⊎◌, inl, inr, List, [], ◌∷◌, ◌++◌, length, map, get_or, take, slice_get, Some, AllPairs, Contains, refl, sym, ap, ◌∙◌, subst, arith}
+use Rattle.std.proofs.Common.{◌≡◌, ◌↔◌, ℕ, ◌+◌, ◌<◌, ◌≤◌, ◌⊎◌, inl, inr, List, [], ◌∷◌, ◌++◌, length, map, get_or, take, slice_get, Some, Contains, refl, sym, ap, ◌∙◌, subst, arith}
 use Rattle.std.specs.Prelude.{slice_set}
 use Rattle.std.proofs.lemmas.List.{get_or-map, length-map, length-take, map-append, take_more}
 use Rattle.std.proofs.lemmas.List.Elements.{Contains-append_left, Contains-push, Contains-push_cases}
-use Rattle.std.proofs.lemmas.Option.{get_or_from_slice_get, none-some}
+use Rattle.std.proofs.lemmas.Option.{get_or_from_slice_get}
 use Rattle.lemmas.proofs.Mapped.{slice_get_map, slice_get_map_from}
 use Rattle.lemmas.proofs.Members.{Contains-from_slice_get, slice_get-from_Contains}
 use Rattle.lemmas.proofs.Places.{slice_get_push_cases, slice_get_take}
@@ -13,7 +13,7 @@ use Rattle.cert_check.proofs.Additions.{slice_get-set_other, slice_get-set_same}
 use Rattle.closure.specs.Closure.{Context, Expression, Individual}
 use Rattle.exactness.specs.ListedInterpretation.{IsBefore}
 use Rattle.facts.specs.declared.contexts.Context as code
-use Rattle.facts.specs.declared.contexts.Context.TheVariants.{Expr, Individual as Individual2}
+use Rattle.facts.specs.declared.contexts.Context.TheVariants.{Expr}
 use Rattle.listed_model.proofs.Given.{ascends_pairs}
 use Rattle.number_sets.proofs.Members.{one_more_taken}
 use Rattle.countermodel.specs.ContextLists.{AreBefore, PlacesExpressions, expression_at}

@@ -1,5 +1,5 @@
 -- What the forms of an ontology lead to is its closure.
-use Rattle.std.proofs.Common.{◌≡◌, ℕ, ◌<◌, ◌^◌, List, [], ◌∷◌, length, map, Result, Ok, Err, Contains, refl, arith, ap, ◌∙◌, sym, subst}
+use Rattle.std.proofs.Common.{◌≡◌, ℕ, ◌<◌, ◌^◌, List, [], ◌∷◌, length, map, Contains, refl, arith, ap, ◌∙◌, sym, subst}
 use Rattle.std.proofs.lemmas.List.Elements.{All-nil}
 use Rattle.lemmas.proofs.Members.{slice_get-from_Contains}
 use Rattle.axioms.specs.Ontology.{Ontology}
@@ -67,13 +67,6 @@ is_saturated o v s h closure few = record { normal = h.normal; asked = h.asked; 
 
 pub has_more : (o : Ontology) (v : Listing) (s : Seen) (most : ℕ) → IsSound o (record { normal = v; state = s }) → derived.HasMoreFactsThan s.problem most → HasMoreFactsThan o v.asked most
 has_more o v s most h more = more_facts o v.asked (prefixes_of v) s.problem h.problem most more
-
-abbrev err_or : {T E : Type 0} → E → Result T E → E
-err_or d (Ok x) = d
-err_or d (Err y) = y
-
-pub same_Err : {T E : Type 0} (x y : E) → ◌≡◌ {A = Result T E} (Err x) (Err y) → x ≡ y
-same_Err x y e = ap (err_or x) e
 
 -- a state that was empty and has grown by the forms, lists and roots has just these
 pub grown_problem : (old new : Seen) (forms : List Form) (lists : ApartLists) (roots : List Context) → old ≡ nothing_seen → HasGrown forms lists roots old new → new.problem ≡ record { forms = forms; apart = lists; roots = roots }

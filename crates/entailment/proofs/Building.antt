@@ -1,6 +1,6 @@
 -- The ontology of a test, step by step.
 use Rattle.std.proofs.Common.{◌≡◌, ℕ, zero, suc, ◌+◌, ◌<◌, List, [], ◌∷◌, ◌++◌, length, slice_get, Some, All, take, refl, sym, ap, ◌∙◌, subst, append_assoc, arith}
-use Rattle.std.proofs.lemmas.List.{append-nil, length-append, length-map, length-take, map-append}
+use Rattle.std.proofs.lemmas.List.{length-append, length-map, length-take, map-append}
 use Rattle.std.proofs.lemmas.List.Elements.{All-append, All-cons, All-head, All-nil, All-tail}
 use Rattle.std.proofs.lemmas.Option.{none-some, same_Some, slice_get_within}
 use Rattle.axioms.specs.Expression.{Iri}
@@ -149,7 +149,3 @@ module _ (known o : Ontology) (claim : Claim) (test : Ontology) (is : IsTestOf o
 
   pub class_in_test : IsOntology o → IsClaimOf o claim → tested_class claim < length test.nodes
   class_in_test w about = subst (λ (t : Ontology). tested_class claim < length t.nodes) (sym is.is) (class_there o w claim about)
-
--- nothing more is the same
-pub with_none : (o : Ontology) → o ≡ with_axioms o []
-with_none o = ap (λ axioms. record o { axioms = axioms }) (sym (append-nil o.axioms))

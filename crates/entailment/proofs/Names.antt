@@ -1,7 +1,7 @@
 -- Names that are longer than all others.
-use Rattle.std.proofs.Common.{◌≡◌, ℕ, ◌+◌, ◌<◌, ◌≤◌, List, [], ◌∷◌, All, Contains, get_or, length, map, slice_get, Some, take, ap, ◌∙◌, subst, sym, arith}
+use Rattle.std.proofs.Common.{◌≡◌, ℕ, ◌+◌, ◌<◌, ◌≤◌, List, [], ◌∷◌, All, get_or, length, map, slice_get, Some, take, ap, ◌∙◌, subst, sym, arith}
 use Rattle.std.proofs.lemmas.List.{map-append}
-use Rattle.std.proofs.lemmas.List.Elements.{All-append, All-cons, All-contains, All-nil}
+use Rattle.std.proofs.lemmas.List.Elements.{All-append, All-cons, All-nil}
 use Rattle.lemmas.proofs.Places.{take_push}
 
 module _ {X : Type 0} (f : X → List ℕ) where
@@ -14,7 +14,3 @@ module _ {X : Type 0} (f : X → List ℕ) where
       let P : List ℕ → Type 0 = λ name. length name ≤ more in
       let before : All P (map f (take k xs)) = λ n d l. (let less : length (get_or (map f (take k xs)) n d) ≤ most = h n d l in omega arith) in
       subst (All P) (sym (ap (map f) (take_push xs k x at) ∙ map-append f (take k xs) (x ∷ []))) (All-append P (map f (take k xs)) (f x ∷ []) before (All-cons P (f x) [] here (All-nil P)))
-
--- what is longer than all of them is none of them
-pub none_longer : (names : List (List ℕ)) (most : ℕ) (name : List ℕ) → All (λ (n : List ℕ). length n ≤ most) names → most < length name → Contains names name → ⊥
-none_longer names most name h longer there = let le : length name ≤ most = All-contains (λ (n : List ℕ). length n ≤ most) names name h there in omega arith

@@ -7,7 +7,7 @@ use Rattle.axioms.specs.WellFormedness.{IsOntology, IsAxiomOf}
 use Rattle.lemmas.proofs.Members.{slice_get-from_Contains, Contains-from_slice_get}
 use Rattle.certificate.specs.Certificate.{Subject, Expression, Individual, Conclusion, Sub, Edge, Same}
 use Rattle.certificate.specs.declared.line.Rule.{Rule}
-use Rattle.certificate.specs.declared.line.Rule.TheVariants.{K1, K2, K3, K4, K5, K6, K7, K8, K9, K10, K11, K12, K13, K14, K15, K16, K17, K18, K19, K20}
+use Rattle.certificate.specs.declared.line.Rule.TheVariants.{K1, K2, K4, K5, K6, K7, K8, K9, K10, K11, K12, K13, K14, K15, K16, K17, K18, K19, K20}
 use Rattle.cert_check.specs.Lines.{Follows, IsWalk}
 use Rattle.certificate.specs.Writability.{IsSubjectOf, IsConclusionOf}
 use Rattle.exactness.specs.Derivability.{IsDerivable, AreDerivable, derived, none, more}
@@ -43,9 +43,6 @@ module _ (o : Ontology) (h : IsOntology o) where
 
   pub k2 : (x : Subject) → IsSubjectOf o x → IsDerivable o (Sub x thing)
   k2 x l = by_rule K2 [] (l, thing_within) refl none
-
-  pub k3 : (x : Subject) (d : ℕ) → d < length o.nodes → IsDerivable o (Sub x nothing) → IsDerivable o (Sub x d)
-  k3 x d l p = by_rule K3 (Sub x nothing ∷ []) ((derivable_within p).0, l) (refl, refl) (more p none)
 
   pub k4_sub : (x : Subject) (c d : ℕ) → Contains o.axioms (SubClass c d) → IsDerivable o (Sub x c) → IsDerivable o (Sub x d)
   k4_sub x c d m p =

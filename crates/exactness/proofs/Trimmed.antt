@@ -258,9 +258,6 @@ premises_of_at None m c = absurd (omega (arith, c.1))
 premises_of_at (Some line) m c = (line, refl, c)
 
 module _ (lines : List Line) where
-  wanted_from : ℕ → List ℕ → List ℕ
-  wanted_from n wanted = premises_of (at_number lines (suc n)) ++ wanted
-
   bounded : (wanted : List ℕ) (n i m : ℕ) → slice_get (wanted_below lines wanted n) i ≡ Some m → (0 < m) × (m ≤ n)
   bounded wanted zero i m = λ e. absurd (none-some m e)
   bounded wanted (suc n) i m =

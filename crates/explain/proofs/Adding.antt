@@ -47,13 +47,6 @@ before_or_last shown numbers n l =
 
 -- ---- one more fact, or none
 
-pub showing_none : (o : Ontology) (s : Saturated) (marks : List Bool) → IsShowing o s marks [] []
-showing_none o s marks = record {
-  derivation = λ n line h. absurd (none-some line h);
-  each = λ n f l marked at. absurd (omega (arith, l));
-  needed = λ n l. absurd (omega (arith, l));
-}
-
 -- what older facts say is shown when the next fact comes
 pub older_shown : (o : Ontology) (s : Saturated) (marks : List Bool) (lines : List Line) (shown : List (List ℕ)) (k : ℕ) → IsSaturated o s → AreClosed s marks → IsMarked marks k → k ≡ length shown → k < length s.state.facts → IsShowing o s marks lines shown → AreOlderShown s lines shown k
 older_shown o s marks lines shown k saturated closed marked next l h r birth m rests f at =

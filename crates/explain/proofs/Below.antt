@@ -1,7 +1,6 @@
 -- Marks on what the lines of marked facts rest on.
 use Rattle.std.proofs.Common.{◌≡◌, ℕ, zero, suc, ◌+◌, ◌<◌, ◌≤◌, ◌⊎◌, ◌↔◌, inl, inr, List, [], ◌∷◌, length, map, take, slice_get, Some, Bool, true, false, if◌then◌else◌, ◌||◌, ◌&&◌, ◌==◌, refl, sym, ap, ◌∙◌, subst, arith}
 use Rattle.std.proofs.lemmas.Bool.{cases_lt}
-use Rattle.std.proofs.lemmas.Option.{slice_get_within}
 use Rattle.std.specs.List.{Contains}
 use Rattle.engine.specs.Saturations.{Saturated}
 use Rattle.explain.specs.Marks.{IsMarked, ServesLater}
@@ -110,15 +109,6 @@ pub record AreHandedOn (s : Saturated) (first marks : List Bool) (k : ℕ) : Typ
   pub kept : (n : ℕ) → IsMarked first n → IsMarked marks n
   pub closed : (n m : ℕ) → k ≤ n → IsMarked marks n → RestsOn s n m → IsMarked marks m
   pub only : (n : ℕ) → IsMarked marks n → IsMarked first n ⊎ ServesLater s marks n
-
--- marks are handed on from their end, where all stand before it
-pub handed_on_none : (s : Saturated) (marks : List Bool) (k : ℕ) → k ≡ length marks → AreHandedOn s marks marks k
-handed_on_none s marks k all = record {
-  long = refl;
-  kept = λ n h. h;
-  closed = λ n m l h r. absurd (omega (arith, slice_get_within marks n true h));
-  only = λ n h. inl h;
-}
 
 pub handed_on_more : (s : Saturated) (first marks new : List Bool) (j k : ℕ) → j ≡ k + 1 → AreHandedOn s first marks j → IsMarked marks k → length new ≡ length marks → Adds marks new (RestsOn s k) → ((n : ℕ) → RestsOn s k n → n < k) → AreHandedOn s first new k
 handed_on_more s first marks new j k one h marked long adds older = record {

@@ -136,27 +136,6 @@ module _ (lists blocks new : List (List ℕ)) (facts block entry : ℕ) (entries
       (same_up_to g f facts (λ k l. ap (numbers_at lists) (entry_other k (omega (arith, l)))))
       (ap (numbers_at lists) entry_last ∙ is)
 
-  pub entries_more : entry < 2 ^ 31 + length lists → AreEntries (length lists) new (facts + 1)
-  entries_more within = record {
-    named = named;
-    next = next;
-    later = λ k l. other k (omega (arith, l, block_is)) ∙ entries.later k (omega (arith, l));
-  }
-    where
-      named : (fact : ℕ) → entry_at new fact < 2 ^ 31 + length lists
-      named fact = elim (cases_eq fact facts) [
-        | inl e ↦ subst (λ n. n < 2 ^ 31 + length lists) (sym (ap (entry_at new) e ∙ entry_last)) within
-        | inr d ↦ subst (λ n. n < 2 ^ 31 + length lists) (sym (entry_other fact d)) (entries.named fact)
-      ]
-
-      next : length (list_at new ((facts + 1) / 256)) ≡ (facts + 1) % 256
-      next = elim (cases_eq ((facts + 1) / 256) block) [
-        | inl e ↦ ap (λ k. length (list_at new k)) e ∙ ap length here ∙ length-append (list_at blocks block) (entry ∷ []) ∙ omega (arith, long, e, block_is)
-        | inr d ↦
-            let far : facts / 256 < (facts + 1) / 256 = omega (arith, d, block_is) in
-            ap length (other ((facts + 1) / 256) d ∙ entries.later ((facts + 1) / 256) far) ∙ omega (arith, far)
-      ]
-
 -- ---- a block more
 
 pub entries_skipped : (lists : ℕ) (blocks : List (List ℕ)) (facts : ℕ) → AreEntries lists blocks facts → facts % 256 ≡ 0 → AreEntries lists blocks (facts + 256)

@@ -14,7 +14,7 @@ use Rattle.certificate.specs.declared.line.Rule.TheVariants.{K19}
 use Rattle.cert_check.specs.Derivation.{IsDerivation, IsDerived, at_numbers}
 use Rattle.cert_check.specs.Lines.{Follows, IsWalk}
 use Rattle.exactness.proofs.Derivable.{conclusions, prepended_list_parts}
-use Rattle.explain.proofs.Used.{before_or_not, premise_grown, used_beside, used_from, used_not, used_twice}
+use Rattle.explain.proofs.Used.{before_or_not, premise_grown, used_beside, used_from, used_twice}
 use Rattle.explain.proofs.Walking.{line_within}
 use Rattle.explain.specs.LinesOfFacts.{Lengthens}
 use Rattle.explain.specs.SameLines.{SaysSame}
@@ -101,10 +101,6 @@ used_next old now new known numbers k d n low longer earlier later =
     used_from old new (λ m. IsAmong (take k known) m ⊎ IsAmong (get_or known k d ∷ []) m) (IsAmong (take (k + 1) known)) (numbers ++ n ∷ [])
     (λ m c. elim (Contains-append_cases (take k known) (get_or known k d ∷ []) (suc m) (subst (λ ns. Contains ns (suc m)) (take_more known k d low) c)) [ inl e ↦ inl e | inr e ↦ inr e ])
     (used_beside old now new (IsAmong (take k known)) (IsAmong (get_or known k d ∷ [])) numbers (n ∷ []) longer earlier later)
-
--- where nothing is given at first
-pub used_none : (lines : List Line) → Uses lines lines (IsAmong []) []
-used_none lines = used_not lines []
 
 -- two lines of which nothing was given lead to one
 pub used_both : (old first second new : List Line) (before behind n : ℕ) → Lengthens first second → Lengthens second new → Uses old first (IsAmong []) (before ∷ []) → Uses first second (IsAmong []) (behind ∷ [])

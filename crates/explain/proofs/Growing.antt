@@ -1,17 +1,14 @@
 -- How derivations grow: what is shown stays shown, numbers one behind the other show conclusions one behind the other, and the number of the last line shows its conclusion.
-use Rattle.std.proofs.Common.{◌≡◌, ℕ, zero, suc, List, [], ◌∷◌, ◌++◌, length, slice_get, Some, refl, sym, ap, ◌∙◌, subst, arith}
+use Rattle.std.proofs.Common.{◌≡◌, ℕ, zero, suc, List, [], ◌∷◌, ◌++◌, length, slice_get, Some, sym, ap, ◌∙◌, subst, arith}
 use Rattle.axioms.specs.Ontology.{Ontology}
-use Rattle.std.proofs.lemmas.List.{append_assoc, append-nil, map-append, length-append, length-map}
+use Rattle.std.proofs.lemmas.List.{append_assoc, map-append, length-append, length-map}
 use Rattle.std.proofs.lemmas.Option.{none-some}
 use Rattle.axioms.specs.View.{at_number}
 use Rattle.certificate.specs.Certificate.{Conclusion, Line}
-use Rattle.certificate.specs.View.{line_of, lines_of}
 use Rattle.certificate.specs.declared.line.Line as code
 use Rattle.cert_check.specs.Derivation.{IsDerivation, IsDerived, at_numbers}
 use Rattle.closure.specs.Denotations.{Prefixes}
 use Rattle.exactness.proofs.Derivable.{conclusions, derivation_push, prepended_list_parts}
-use Rattle.engine.specs.Saturations.{Saturated}
-use Rattle.explain.specs.OlderFacts.{AreOlderShown}
 use Rattle.explain.specs.LinesOfFacts.{AreShowing, Lengthens}
 use Rattle.facts.specs.declared.contexts.Fact.{Fact}
 use Rattle.lemmas.proofs.Places.{slice_get_push}
@@ -54,12 +51,6 @@ at_last_number xs x n e =
 
 -- ---- lines
 
-pub lengthened_not : (lines : List Line) → Lengthens lines lines
-lengthened_not lines = record { more = []; new_is = sym (append-nil lines) }
-
-pub lengthened_by : (lines more : List Line) → Lengthens lines (lines ++ more)
-lengthened_by lines more = record { more = more; new_is = refl }
-
 pub lengthened_twice : {first second third : List Line} → Lengthens first second → Lengthens second third → Lengthens first third
 lengthened_twice {first} g h = record {
   more = g.more ++ h.more;
@@ -82,10 +73,6 @@ last_conclusion lines line n e =
 pub added_line_at : (lines new : List Line) (line : Line) (numbers : List ℕ) (n : ℕ) → new ≡ lines ++ line ∷ [] → n ≡ length new → numbers ≡ n ∷ [] → at_numbers (conclusions new) numbers ≡ Some (line.conclusion ∷ [])
 added_line_at lines new line numbers n added number is = rw (is, added) (last_conclusion lines line n (number ∙ ap length added))
 
--- a line more, as the code has it
-pub lines_pushed : (old new : List code.Line) (line : code.Line) → new ≡ old ++ line ∷ [] → lines_of new ≡ lines_of old ++ line_of line ∷ []
-lines_pushed old new line e = ap lines_of e ∙ map-append line_of old (line ∷ [])
-
 pub derivation_pushed : (o : Ontology) (old new : List Line) (line : Line) → new ≡ old ++ line ∷ [] → IsDerivation o old → IsDerived o old line → IsDerivation o new
 derivation_pushed o old new line e derivation derived = subst (IsDerivation o) (sym e) (derivation_push old line derivation derived)
 
@@ -99,6 +86,3 @@ showing_grown {numbers = numbers} g s = record {
   at = conclusions_grown numbers s.conclusions g s.at;
   shown = s.shown;
 }
-
-pub older_shown_grown : (s : Saturated) {old new : List Line} (shown : List (List ℕ)) (n : ℕ) → Lengthens old new → AreOlderShown s old shown n → AreOlderShown s new shown n
-older_shown_grown s shown n g older r birth m rests f there = showing_grown g (older r birth m rests f there)

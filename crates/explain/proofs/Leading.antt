@@ -40,9 +40,6 @@ form_at entries m origin by =
     let (entry, at) = slice_get_there entries m (form_there entries m origin by) in
     (entry.form, slice_get_map form_in entries m entry at)
 
-pub form_read : (o : Ontology) (s : Saturated) (m : ℕ) (ys : List Form) (form : Form) → IsSaturated o s → ys ≡ map form_in s.normal.entries → slice_get ys m ≡ Some form → slice_get s.state.problem.forms m ≡ Some form
-form_read o s m ys form saturated e at = ap (λ (fs : List Form). slice_get fs m) (saturated.forms ∙ sym e) ∙ at
-
 pub axiom_there : (o : Ontology) (s : Saturated) (m number : ℕ) → IsSaturated o s → option_map origin_in (slice_get s.normal.entries m) ≡ Some (origins.Axiom number) → (a : Axiom) × (at_number o.axioms number ≡ Some a)
 axiom_there o s m number saturated by =
     let (form, at) = form_at s.normal.entries m (origins.Axiom number) by in

@@ -107,9 +107,6 @@ next_leads lines walk x y r rs d many walks =
 edge_target : {x y z w : Subject} {r s : ℕ} → Edge x r y ≡ Edge z s w → y ≡ w
 edge_target e = cc
 
-edge_source : {x y z w : Subject} {r s : ℕ} → Edge x r y ≡ Edge z s w → x ≡ z
-edge_source e = cc
-
 -- the numbers of a walk from i, from those of a walk from j
 pub source_shown : (b : Prefixes) (old new : List Line) (walk numbers : List ℕ) (d n r : ℕ) (ss : List ℕ) (z : Subject) (i j : IndId) (p : PropId2) (y : Context) (w : IsShownWalk b old walk (Individual j) p y)
     → Lengthens old new → steps_of w.property ≡ r ∷ ss → at_number (conclusions old) (get_or walk 0 d) ≡ Some (Edge (subject_in (Individual j)) r z) → at_number (conclusions new) n ≡ Some (Edge (subject_in (Individual i)) r z)

@@ -125,16 +125,6 @@ pub record AreKeptSoFar (lines : List Line) (marks : List Bool) (n : ℕ) (kept 
   pub long : length places ≡ n
   pub places_are : (k : ℕ) → k < n → slice_get places k ≡ Some (length (marked_numbers marks (suc k)))
 
-pub kept_start : (lines : List Line) (marks : List Bool) → AreKeptSoFar lines marks 0 [] []
-kept_start lines marks = record {
-  old = [];
-  old_at = refl;
-  kept_are = refl;
-  many = refl;
-  long = refl;
-  places_are = λ k l. absurd (omega arith);
-}
-
 slice_get_keep : (xs : List ℕ) (x n y : ℕ) → slice_get xs n ≡ Some y → slice_get (xs ++ x ∷ []) n ≡ Some y
 slice_get_keep xs x n y e = keeps_push xs x n y e
 
@@ -183,13 +173,6 @@ premises_in_range lines marks n line bound premises marked at e k d l =
     let number = slice_index_or line.premises k d in
     let p = premises n number line marked at (Contains-from_slice_get line.premises k number (slice_get-get_or line.premises k d l)) in
     (omega (arith, p.1), omega (arith, p.1, p.2, e))
-
-pub kept_all : (lines : List Line) (marks : List Bool) (n : ℕ) (kept : List Line) (places : List ℕ) → AreKeptSoFar lines marks n kept places → n ≡ length marks → AreKept lines marks kept
-kept_all lines marks n kept places h e = record {
-  old = h.old;
-  old_at = subst (λ k. at_numbers lines (marked_numbers marks k) ≡ Some h.old) e h.old_at;
-  kept_are = h.kept_are;
-}
 
 -- ---- what the goal rests on
 

@@ -1,6 +1,6 @@
 -- Lines that say that individuals are one: they stay where lines are added, and they follow from the axiom that gave the form.
 use Rattle.std.proofs.Common.{◌≡◌, ℕ, zero, suc, ◌+◌, ◌/◌, ◌%◌, ◌^◌, ◌<◌, ◌≤◌, inl, inr, List, [], ◌∷◌, ◌++◌, length, map, drop, get_or, slice_get, option_map, Option, Some, None, IfSome, Result, Ok, Err, OnOk, OnErr, Contains, refl, sym, ap, ap₂, ◌∙◌, subst, arith}
-use Rattle.std.proofs.lemmas.List.{append-nil, drop_all}
+use Rattle.std.proofs.lemmas.List.{append-nil}
 use Rattle.std.specs.BTreeMap.{BTreeMap, get}
 use Rattle.std.specs.Ordering.{nat_cmp}
 use Rattle.std.proofs.lemmas.Option.{none-some}
@@ -192,6 +192,3 @@ pub chain_next : (fs : List code_form.Form) (i : IndId) (chain : List ℕ) (k d 
 chain_next fs i chain k d next low only j c =
     let (h, link, rest) = chain_on fs i j chain k d low c in
     subst (λ x. IsChain fs x (drop (k + 1) chain) j) (only h link) rest
-
-pub chain_over : (fs : List code_form.Form) (i j : IndId) (chain : List ℕ) (k : ℕ) → length chain ≤ k → IsChain fs i (drop k chain) j → i ≡ j
-chain_over fs i j chain k past c = subst (λ ns. IsChain fs i ns j) (drop_all k chain past) c

@@ -31,11 +31,6 @@ premise_grown {old} {new} g n (m, later, l, e, h) =
 
 -- ---- steps
 
--- no step
-pub used_not : (lines : List Line) (numbers : List ℕ) → Uses lines lines (IsAmong numbers) numbers
-used_not lines numbers n l (inl k) = absurd (omega arith)
-used_not lines numbers n l (inr h) = inr h
-
 -- one step behind the other
 pub used_twice : (first second third : List Line) (Given : ℕ → Type 0) (between after : List ℕ) → Lengthens second third → Uses first second Given between → Uses second third (IsAmong between) after → Uses first third Given after
 used_twice first second third Given between after g earlier later n l h =
@@ -152,9 +147,3 @@ module _ (shown : List (List ℕ)) (o : Older) where
 pub taken_whole : {X : Type 0} (xs : List X) → take (length xs) xs ≡ xs
 taken_whole [] = refl
 taken_whole (x ∷ xs) = ap (λ ys. x ∷ ys) (taken_whole xs)
-
--- a walk of which nothing is carried over yet
-pub walk_ahead : (lines : List Line) (walk : List ℕ) (end k : ℕ) → k ≡ length walk → Uses lines lines (IsAmong (walk ++ end ∷ [])) (take k walk ++ end ∷ [])
-walk_ahead lines walk end k e =
-    let whole : take k walk ≡ walk = ap (λ j. take j walk) e ∙ taken_whole walk in
-    subst (λ ns. Uses lines lines (IsAmong (walk ++ end ∷ [])) (ns ++ end ∷ [])) (sym whole) (used_not lines (walk ++ end ∷ []))

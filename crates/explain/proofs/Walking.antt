@@ -105,11 +105,6 @@ same_source lines edge end x y l e =
     let (s, t, at_edge, at_end) = edge_into_nothing lines edge end x l in
     same_Some y x (e ∙ ap (option_map source_of) at_edge)
 
-pub no_source : (lines : List Line) (edge end : ℕ) (x : Subject) → LeadsToNothing lines (edge ∷ []) end x → None ≡ option_map source_of (at_number (conclusions lines) edge) → ⊥
-no_source lines edge end x l e =
-    let (s, t, at_edge, at_end) = edge_into_nothing lines edge end x l in
-    none-some x (e ∙ ap (option_map source_of) at_edge)
-
 pub carried_line : (o : Ontology) (lines : List Line) (edge end : ℕ) (x y : Subject) (premises : List ℕ) → IsOntology o → IsDerivation o lines → LeadsToNothing lines (edge ∷ []) end x → y ≡ x → premises ≡ edge ∷ end ∷ []
     → IsDerived o lines (record { conclusion = Sub y nothing; rule = K11; axiom' = None; premises = premises })
 carried_line o lines edge end x y premises w d l same are =

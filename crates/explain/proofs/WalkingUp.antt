@@ -7,7 +7,7 @@ use Rattle.std.specs.Ordering.{is_eq, nat_cmp}
 use Rattle.std.specs.Prelude.{Result, Ok, Err, IfOk, MatchOption, reverse}
 use Rattle.std.proofs.lemmas.Bool.{cases_eq}
 use Rattle.std.proofs.lemmas.Bool.Decides.{nat_tests}
-use Rattle.std.proofs.lemmas.List.{append_assoc, append-nil, get_or_append_left, get_or_push, length_push, reverse-append}
+use Rattle.std.proofs.lemmas.List.{append_assoc, get_or_append_left, get_or_push, length_push, reverse-append}
 use Rattle.std.proofs.lemmas.List.Elements.{All-contains}
 use Rattle.std.proofs.lemmas.Option.{none-some, same_Some}
 use Rattle.lemmas.proofs.Members.{Contains-from_slice_get, slice_get-from_Contains}
@@ -21,7 +21,6 @@ use Rattle.normal_forms.specs.Properties.{IsAtOrBelow, IsPropertyFormOf, same, s
 use Rattle.number_sets.specs.Pieces.{list_at}
 use Rattle.explain.specs.declared.reached.Reached.{Reached}
 use Rattle.explain.specs.declared.reached.Way.{Way}
-use Rattle.explain.specs.declared.told.Told.{Told}
 use Rattle.explain.specs.Paths.{IsChain, IsPath}
 use Rattle.explain.specs.Search.{AreEarlier, AreKept, AreLeadsWithin, AreReached, AreWays, HasNo, IsTrace, IsWay, LeadsOver, LeadsUp, StandsAt, as_id, as_individual}
 use Rattle.explain.specs.Search as search
@@ -32,9 +31,6 @@ use Rattle.explain.proofs.Reaching.{led_up}
 -- the numbers so far, last first, lead on from a place
 abbrev pub TracesOn : List Reached → ℕ → ℕ → List ℕ → Type 0
 TracesOn found place at numbers = (before : List ℕ) → IsTrace found at before → IsTrace found place (before ++ reverse numbers)
-
-pub traces_none : (found : List Reached) (place : ℕ) → TracesOn found place place []
-traces_none found place before trace = subst (IsTrace found place) (sym (append-nil before)) trace
 
 pub traces_more : (found : List Reached) (place at : ℕ) (numbers : List ℕ) (r : Reached) (way : Way) → slice_get found at ≡ Some r → r.way ≡ Some way → TracesOn found place at numbers → TracesOn found place way.from (numbers ++ way.form ∷ [])
 traces_more found place at numbers r way g e on before trace =

@@ -1,25 +1,17 @@
 -- Elements that are chosen, one after the other.
-use Rattle.std.proofs.Common.{◌≡◌, ℕ, ◌+◌, ◌<◌, inl, inr, Bool, true, false, List, [], ◌∷◌, ◌++◌, length, get_or, slice_get, Some, Contains, refl, sym, subst, subst₂, arith}
+use Rattle.std.proofs.Common.{◌≡◌, ℕ, ◌+◌, ◌<◌, inl, inr, Bool, true, false, List, [], ◌∷◌, ◌++◌, length, get_or, slice_get, Some, Contains, sym, subst, subst₂, arith}
 use Rattle.std.proofs.lemmas.Bool.{both_ways, cases_eq}
 use Rattle.std.proofs.lemmas.List.{length_push}
 use Rattle.std.proofs.lemmas.List.Elements.{Contains-append_left, Contains-push}
 use Rattle.std.proofs.lemmas.List.Kept.{AllPairs-from_increasing}
 use Rattle.std.proofs.lemmas.List.Quantifiers.{all_pairs_push}
-use Rattle.std.proofs.lemmas.Option.{none-some, slice_get-get_or}
+use Rattle.std.proofs.lemmas.Option.{slice_get-get_or}
 use Rattle.lemmas.proofs.Places.{slice_get_push, slice_get_push_cases, keeps_push}
 use Rattle.listed_model.proofs.Members.{rising}
 use Rattle.number_sets.specs.Members.{has}
 use Rattle.generated_part.specs.Part.{AreChosen}
 
 module _ (marks : List Bool) where
-  pub none_chosen : AreChosen marks 0 [] []
-  none_chosen = record {
-    ascend = λ k l. absurd (omega arith);
-    each = λ m x h. absurd (none-some x h);
-    all = λ x l h. absurd (omega arith);
-    long = refl;
-  }
-
   module _ (n : ℕ) (elements places : List ℕ) (was : AreChosen marks n elements places) where
     place_kept : (m x : ℕ) → slice_get elements m ≡ Some x → (x < n + 1) × (has marks x ≡ true) × (slice_get (places ++ length elements ∷ []) x ≡ Some m)
     place_kept m x h = (let p = was.each m x h in (omega (arith, p.0), p.1, keeps_push places (length elements) x m p.2))

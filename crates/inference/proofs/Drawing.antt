@@ -89,9 +89,6 @@ drawn_by_two k _ _ facts all part _ _ _ (apart l a b x w) = part l a b x w refl 
 pub one_in_hand : (P : Fact → Type 0) (f g : Fact) → f ∷ [] ≡ g ∷ [] → P f → P g
 one_in_hand P f g e p = let same : f ≡ g = cc in subst P same p
 
-pub differences_still : {k : Problem} {most : ℕ} {a b : Derived} → Grows k most a b → AreDifferencesDrawn k a.facts → AreDifferencesDrawn k b.facts
-differences_still s drawn l a b at same = there_still s _ (drawn l a b at same)
-
 pub drawn_still : {k : Problem} {most : ℕ} {a b : Derived} → Grows k most a b → (older : List Fact) → Drawn k older a.facts → Drawn k older b.facts
 drawn_still s older drawn condition form f gives = there_still s f (drawn condition form f gives)
 

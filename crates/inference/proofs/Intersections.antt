@@ -13,7 +13,7 @@ use Rattle.indexes.specs.FormsUnderKeys.{IsUnder}
 use Rattle.indexes.specs.Keys.{by_first, by_second, class_key}
 use Rattle.inference.specs.Derivations.{Derived, Grows}
 use Rattle.inference.specs.Visits.{IsClassFact}
-use Rattle.inference.specs.Completeness.{Drawn, IsDrawnFrom, IsDrawnIn, MeetsOperands, MeetEachOther, DrawnUpToRedundancy}
+use Rattle.inference.specs.Completeness.{Drawn, IsDrawnIn, MeetsOperands, MeetEachOther, DrawnUpToRedundancy}
 use Rattle.inference.proofs.Drawing.{drawn_at_still}
 use Rattle.inference.proofs.Giving.{first_operand, second_operand}
 use Rattle.inference.proofs.Growth.{there_still}
@@ -39,25 +39,12 @@ same_first a b c p q r e = cc
 same_second : (a b c p q r : Class2) → N2 a b c ≡ N2 p q r → b ≡ q
 same_second a b c p q r e = cc
 
--- where the form is no intersection there is nothing to draw
-pub no_intersection : (k : Problem) (old new : List Fact) (x : Context) (n : ℕ) → ((a b c : Class2) → slice_get k.forms n ≡ Some (N2 a b c) → ⊥) → IsDrawnIn k old x new n
-no_intersection k old new x n none a b ina inb form at h w =
-    let i = intersection k form a b x x h w in
-    absurd (none a b i.0 (subst (λ f. slice_get k.forms n ≡ Some f) i.1 at))
-
 -- where not both classes of the intersection are in the context there is nothing to draw
 pub not_both : (k : Problem) (old new : List Fact) (x : Context) (n : ℕ) (p q r : Class2) → slice_get k.forms n ≡ Some (N2 p q r) → (Contains old (In p x) → Contains old (In q x) → ⊥) → IsDrawnIn k old x new n
 not_both k old new x n p q r is none a b ina inb form at h w =
     let i = intersection k form a b x x h w in
     let same : N2 a b i.0 ≡ N2 p q r = one_value (slice_get k.forms n) _ _ (subst (λ f. slice_get k.forms n ≡ Some f) i.1 at) is in
     absurd (none (subst (λ c. Contains old (In c x)) (same_first a b i.0 p q r same) ina) (subst (λ c. Contains old (In c x)) (same_second a b i.0 p q r same) inb))
-
--- what it gives from these is all
-pub both_drawn : (k : Problem) (old new : List Fact) (x : Context) (n : ℕ) (p q r : Class2) → slice_get k.forms n ≡ Some (N2 p q r) → IsDrawnFrom k (In p x ∷ In q x ∷ []) new n → IsDrawnIn k old x new n
-both_drawn k old new x n p q r is drawn a b ina inb form at h w =
-    let i = intersection k form a b x x h w in
-    let same : N2 a b i.0 ≡ N2 p q r = one_value (slice_get k.forms n) _ _ (subst (λ f. slice_get k.forms n ≡ Some f) i.1 at) is in
-    drawn form at h (subst (λ c. FromTwo k form (In c x) (In q x) h) (same_first a b i.0 p q r same) (subst (λ c. FromTwo k form (In a x) (In c x) h) (same_second a b i.0 p q r same) w))
 
 -- what is there stays, and what was there earlier is asked for alone
 pub drawn_in_still : {k : Problem} {most : ℕ} {a b : Derived} → Grows k most a b → (old : List Fact) (x : Context) (n : ℕ) → IsDrawnIn k old x a.facts n → IsDrawnIn k old x b.facts n

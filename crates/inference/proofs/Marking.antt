@@ -19,7 +19,7 @@ use Rattle.facts.specs.declared.contexts.Fact.TheVariants.{In, Edge}
 use Rattle.facts.specs.Closure.{Problem, FromTwo}
 use Rattle.inference.specs.Derivations.{Keeps}
 use Rattle.inference.specs.Visits.{GiveNothing, IsBy, IsEdge}
-use Rattle.inference.specs.Marks.{IsMark, AreMarks, bit_of, HasBit, HasSeconds, HasEnds, HasAbove, HasFilled, HasSecondsOf, HasEndsOf, HasAboveOf, HasFilledOf}
+use Rattle.inference.specs.Marks.{AreMarks, bit_of, HasBit, HasSeconds, HasEnds, HasAbove, HasFilled, HasSecondsOf, HasEndsOf, HasAboveOf, HasFilledOf}
 use Rattle.inference.proofs.Giving.{by_form_or_back}
 use Rattle.inference.proofs.Lists.{slice_get_push_cases}
 
@@ -27,12 +27,6 @@ use Rattle.inference.proofs.Lists.{slice_get_push_cases}
 
 pub marks_of_more : (facts more : List Fact) (marks : List ℕ) → Keeps facts more → AreMarks facts marks → AreMarks more marks
 marks_of_more facts more marks keeps are n mark at = let o = are n mark at in (o.0, keeps n o.0 o.1, o.2)
-
-pub one_mark_more : (facts : List Fact) (marks : List ℕ) (f : Fact) (mark : ℕ) → AreMarks facts marks → slice_get facts (length marks) ≡ Some f → IsMark mark f → AreMarks facts (marks ++ mark ∷ [])
-one_mark_more facts marks f mark are at is n m there = ⊎_elim
-    (λ w. are n m w)
-    (λ w. (f, subst (λ (j : ℕ). slice_get facts j ≡ Some f) (sym w.0) at, subst (λ (x : ℕ). IsMark x f) w.1 is))
-    (slice_get_push_cases marks mark n m there)
 
 -- ---- masks
 

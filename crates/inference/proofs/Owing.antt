@@ -10,7 +10,7 @@ use Rattle.facts.specs.declared.contexts.Fact.TheVariants.{In}
 use Rattle.facts.specs.Births.{Reason}
 use Rattle.facts.specs.Closure.{Problem, IsContextBy, IsLoop, Gives, IsFact, in_thing, in_itself, by_form, unsatisfiable, loop, handed_on, different, apart, given, condition, thing}
 use Rattle.inference.specs.Derivations.{Derived, IsDerived, Grows}
-use Rattle.inference.specs.Completeness.{AllDrawn, AreLoopsDrawn, HasEntry, IsContextAt, IsEntry, IsOwed}
+use Rattle.inference.specs.Completeness.{AreLoopsDrawn, HasEntry, IsContextAt, IsEntry, IsOwed}
 use Rattle.inference.proofs.Growth.{older_facts, sound, there_still}
 use Rattle.inference.proofs.Lists.{one_value, slice_get-from_Contains, slice_get_take, slice_get_there}
 use Rattle.inference.proofs.Places.{at_still}
@@ -28,14 +28,6 @@ loops_still s x drawn form there f l = ⊎_elim (λ c. inl (there_still s f c)) 
 
 pub owed_still : {k : Problem} {most : ℕ} {a b : Derived} → Grows k most a b → (f : Fact) → IsOwed k a f → IsOwed k b f
 owed_still s f w = record { context = w.context; form = w.form; there = w.there; is_loop = w.is_loop; entry = has_entry_still s w.context w.entry }
-
--- ---- loops that are all drawn, or left to an entry
-
-pub all_loops_drawn : (k : Problem) (x : Context) (d : Derived) → AllDrawn (IsLoop x) k.forms d.facts → AreLoopsDrawn k x d
-all_loops_drawn k x d all form there f l = inl (all form there f l)
-
-pub left_to_entry : (k : Problem) (x : Context) (d : Derived) → HasEntry d x → AreLoopsDrawn k x d
-left_to_entry k x d entry form there f l = inr entry
 
 -- ---- a context is one by what gave its entry
 
@@ -75,20 +67,7 @@ module _ {k : Problem} {d : Derived} (s : IsDerived k d) where
   pub context_by_birth : (x : Context) (n : ℕ) (read : Reason) → slice_get d.births n ≡ Some read → IsEntry d x n → IsContextAt k d.facts read.older x
   context_by_birth x n read at e = subst (λ (r : Reason). IsContextAt k d.facts r.older x) (one_value _ e.birth read e.born at) (context_of_entry x n e)
 
-  -- the loops at it are in the closure
-  pub loop_is_fact : (x : Context) (n : ℕ) → IsEntry d x n → (form : Form) → Contains k.forms form → (f : Fact) → IsLoop x form f → IsFact k f
-  loop_is_fact x n e form there f l =
-      let b = s.born n (In thing x) e.birth e.there e.born in
-      let at = slice_get-from_Contains k.forms form there in
-      given 10 (Some at.0) b.0 (loop x at.0 form at.1 l (by_context x b.2 e.of_context refl)) (older_facts s n e.birth.older b.0 b.1 (λ m g low here. sound s m g here))
-
 -- ---- whether a fact is an entry
-
-pub entry_by_birth : {d : Derived} (x : Context) (n : ℕ) (read : Reason) → slice_get d.facts n ≡ Some (In thing x) → slice_get d.births n ≡ Some read → read.condition ≡ 1 → IsEntry d x n
-entry_by_birth x n read there at e = record { there = there; birth = read; born = at; of_context = e }
-
-pub birth_of_entry : {d : Derived} (x : Context) (n : ℕ) (read : Reason) → slice_get d.births n ≡ Some read → IsEntry d x n → read.condition ≡ 1
-birth_of_entry x n read at e = subst (λ (r : Reason). r.condition ≡ 1) (one_value _ e.birth read e.born at) e.of_context
 
 -- a fact that is an entry later was one before, if it was there
 pub entry_before : {k : Problem} {most : ℕ} {a b : Derived} → IsDerived k a → Grows k most a b → (x : Context) (n : ℕ) → n < length a.facts → IsEntry b x n → IsEntry a x n

@@ -7,7 +7,6 @@ use Rattle.normal_forms.specs.declared.forms.Form.{Form}
 use Rattle.normal_forms.specs.declared.forms.Form.TheVariants.{N1, N2, N3, N4, N5, N6, N7, N8, N9, N10, N12}
 use Rattle.normal_forms.specs.declared.forms.PropId2.{PropId2}
 use Rattle.facts.specs.declared.contexts.Fact.{Fact}
-use Rattle.facts.specs.declared.contexts.Fact.TheVariants.{In, Edge}
 use Rattle.facts.specs.Closure.{Problem}
 use Rattle.indexes.specs.declared.keys.Key.{Key}
 use Rattle.indexes.specs.FormsUnderKeys.{IsUnder}
@@ -18,8 +17,8 @@ use Rattle.std.specs.Prelude.{bit_and}
 use Rattle.normal_forms.specs.declared.forms.PropId2.TheVariants.{Property}
 use Rattle.normal_forms.specs.Properties.{IsAtOrBelow}
 use Rattle.inference.specs.Marks.{HasAbove, HasBit}
-use Rattle.inference.specs.Plans.{ArePlans, has_number, HasAboveBehind, HasChainsFrom, IsPlan, IsPlanDrawn, PlansAlso, SaysItsChain, SayTheirChains}
-use Rattle.inference.specs.Visits.{AllChainsDrawn, IsBehind}
+use Rattle.inference.specs.Plans.{ArePlans, has_number, HasChainsFrom, IsPlan, IsPlanDrawn, PlansAlso, SaysItsChain, SayTheirChains}
+use Rattle.inference.specs.Visits.{AllChainsDrawn}
 use Rattle.inference.proofs.Drawing.{each_more}
 use Rattle.inference.proofs.Lists.{slice_get_push_cases}
 use Rattle.inference.proofs.Marking.{apart}
@@ -65,9 +64,6 @@ says_more forms plan c says say d there = elim (Contains-push_cases plan c d the
   | inl w ↦ say d w
   | inr e ↦ subst (SaysItsChain forms) e says
 ]
-
-pub also_none : (forms : List Form) (P : ℕ → Type 0) (plan : List PlannedChain) → ((n : ℕ) → P n → (r s t : PropId2) → slice_get forms n ≡ Some (N6 r s t) → ⊥) → PlansAlso forms P plan plan
-also_none forms P plan none = record { say = λ say. say; keeps = λ n has. has; has = λ n is r s t at. absurd (none n is r s t at) }
 
 pub also_one : (forms : List Form) (plan : List PlannedChain) (c : PlannedChain) → SaysItsChain forms c → PlansAlso forms (λ n. n ≡ c.number) plan (plan ++ c ∷ [])
 also_one forms plan c says = record {
@@ -126,13 +122,6 @@ plans_more forms old new plan place is long are here = (
 -- where the bit of a property is not there, it is not at or above that of the mask
 pub not_above : (forms : List Form) (mask bit : ℕ) (q s : PropId2) → bit_and mask bit ≡ 0 → HasAbove forms mask q → HasBit bit s → IsTrue false ↔ IsAtOrBelow forms q s
 not_above forms mask bit q s none above has = (λ no. absurd (true≢false (sym no)), λ below. absurd (apart mask bit s none (above s below) has))
-
-pub above_behind : (forms : List Form) (mask : ℕ) (q : PropId2) (older : List Fact) → IsBehind q older → HasAbove forms mask q → HasAboveBehind forms mask older
-above_behind forms mask q [] behind above = absurd behind
-above_behind forms mask q (f ∷ []) behind above = absurd behind
-above_behind forms mask q (f ∷ In a x ∷ []) behind above = absurd behind
-above_behind forms mask q (f ∷ Edge x r y ∷ []) behind above = subst (HasAbove forms mask) (sym behind) above
-above_behind forms mask q (f ∷ g ∷ h ∷ more) behind above = absurd behind
 
 pub plan_drawn : (k : Problem) (older facts : List Fact) (p : PropId2) (plan : List PlannedChain) → IsPlan k.forms p plan → IsPlanDrawn k older facts plan → AllChainsDrawn k older facts p
 plan_drawn k older facts p plan is drawn r above n under =

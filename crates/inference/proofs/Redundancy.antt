@@ -1,5 +1,5 @@
 -- What is redundant of what two facts give, and that it stays so.
-use Rattle.std.proofs.Common.{◌≡◌, inl, inr, ⊎_elim, ℕ, Bool, true, List, [], ◌∷◌, slice_get, Some, None, Option, refl, subst}
+use Rattle.std.proofs.Common.{◌≡◌, inl, inr, ⊎_elim, ℕ, Bool, true, List, [], ◌∷◌, Some, None, Option, refl}
 use Rattle.normal_forms.specs.declared.forms.Form.{Form}
 use Rattle.normal_forms.specs.declared.forms.Form.TheVariants.{N1, N2, N3, N4, N5, N6, N7, N8, N9, N10, N12}
 use Rattle.normal_forms.specs.declared.forms.PropId2.{PropId2}
@@ -10,9 +10,8 @@ use Rattle.facts.specs.declared.contexts.Fact.TheVariants.{In, Edge}
 use Rattle.facts.specs.Closure.{Problem, FromTwo, Carries, in_thing, in_itself, by_form, unsatisfiable, loop}
 use Rattle.indexes.specs.Keys.{property_key, by_end}
 use Rattle.inference.specs.Derivations.{Derived, Grows}
-use Rattle.inference.specs.Visits.{GoesOnAt, NoneNeeds}
-use Rattle.inference.specs.Completeness.{Drawn, DrawnUpToRedundancy, AreRedundant, EndsAbove, GoesOn, IsGivenBy, IsRedundantAsSecond}
-use Rattle.inference.proofs.Lists.{one_value}
+use Rattle.inference.specs.Visits.{NoneNeeds}
+use Rattle.inference.specs.Completeness.{Drawn, DrawnUpToRedundancy, AreRedundant, EndsAbove, IsGivenBy, IsRedundantAsSecond}
 use Rattle.inference.proofs.Growth.{there_still}
 use Rattle.inference.proofs.Owing.{owed_still}
 
@@ -82,8 +81,3 @@ redundant_edge k d z q v is_given given none f h _ _ (by_form m form at gives) =
     (form, at, record { goes_on = needs.1 form at; property = q; below = e.3; given = given needs.0 })
 redundant_edge k d z q v is_given given none f h _ _ (unsatisfiable b) = absurd (not_carried f h z q v b)
 redundant_edge k d z q v is_given given none f _ _ _ (loop u m form at l c) = absurd c
-
--- ---- whether a chain goes on, by what is read at its place
-
-pub goes_on_here : (forms : List Form) (n : ℕ) (read : Form) → slice_get forms n ≡ Some read → GoesOn forms read → GoesOnAt forms n
-goes_on_here forms n read is on form at = subst (GoesOn forms) (one_value _ read form is at) on

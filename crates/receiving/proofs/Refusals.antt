@@ -4,17 +4,14 @@ use Rattle.std.specs.Prelude.{IfErr, IfOk, IsErrOf}
 use Rattle.std.specs.Global.{Vec}
 use Rattle.std.specs.Io.KnownBytes.{Keeps}
 use Rattle.device.specs.Device.{IsLongerThan}
-use Rattle.profile.specs.Faults.{Refuses}
 use Rattle.profile.specs.declared.fault.DocumentFault.{DocumentFault}
 use Rattle.profile.specs.declared.fault.DocumentFault.TheVariants as reading
-use Rattle.program.specs.declared.version.Version.{Version}
 use Rattle.receiving.proofs.Kept.{known_file}
 use Rattle.receiving.proofs.ReadFiles.{IsOfFiles, read_blamed, read_there}
 use Rattle.receiving.specs.Checks.{AreKnown}
-use Rattle.receiving.specs.Files.{BlamesFile, IsSourceOf}
-use Rattle.receiving.specs.Lines.{AreAll, IsFaultIn, IsFileRead, IsUnread}
+use Rattle.receiving.specs.Files.{IsSourceOf}
+use Rattle.receiving.specs.Lines.{IsFileRead, IsUnread}
 use Rattle.source_lines.specs.Sources.{SourceState}
-use Rattle.system_files.specs.Contents.{IsThere}
 use Rattle.telling.specs.Devices.{IsReadIn}
 
 -- what is longer in a source is in its file
@@ -38,28 +35,3 @@ pub file_read : (most : ℕ) (fails known : Bool) (held : Option (List ℕ)) (ol
 file_read most fails known held old new (Ok bytes) is of are within unread beyond read = (record { are = known_file held old.left bytes.items is.left are; within = within }, read_there known held old new is read)
 file_read most fails known held old new (Err fault) is of are within unread beyond read =
     (unread_file held old.left most fault is.left unread, read_blamed fails known held fault most old new is of read (λ same. beyond (ap Err same)))
-
--- what is not read at all is refused for no bytes
-pub unread_refused : (version : Version) (most : ℕ) (held : Option (List ℕ)) (fault : DocumentFault) → IsUnread most held fault → IsFaultIn version most held [] fault
-unread_refused version most held reading.TooLarge is = is
-unread_refused version most held reading.Io is = tt
-unread_refused version most held reading.Memory is = tt
-unread_refused version most held reading.TooManyNames is = absurd is
-unread_refused version most held (reading.NotUtf8 at) is = absurd is
-unread_refused version most held (reading.Lex fault) is = absurd is
-unread_refused version most held (reading.Parse fault) is = absurd is
-unread_refused version most held (reading.Faults found) is = absurd is
-
--- bytes that are refused, of a file that is there
-pub bytes_refused : (version : Version) (most : ℕ) (fails known : Bool) (held : Option (List ℕ)) (bytes given : List ℕ) (fault : DocumentFault) → given ≡ bytes → AreAll most held bytes × IsThere known held → Refuses version fault given → IsFaultIn version most held bytes fault × BlamesFile fails known held fault
-bytes_refused version most fails known held bytes given fault same is refuses = let P : List ℕ → Type 0 = λ b. Refuses version fault b in by_fault fault (subst P same refuses)
-  where
-    by_fault : (fault : DocumentFault) → Refuses version fault bytes → IsFaultIn version most held bytes fault × BlamesFile fails known held fault
-    by_fault reading.TooLarge refuses = absurd refuses
-    by_fault reading.Io refuses = absurd refuses
-    by_fault reading.Memory refuses = (tt, tt)
-    by_fault reading.TooManyNames refuses = ((is.0, refuses), is.1)
-    by_fault (reading.NotUtf8 at) refuses = ((is.0, refuses), is.1)
-    by_fault (reading.Lex fault) refuses = ((is.0, refuses), is.1)
-    by_fault (reading.Parse fault) refuses = ((is.0, refuses), is.1)
-    by_fault (reading.Faults found) refuses = ((is.0, refuses), is.1)

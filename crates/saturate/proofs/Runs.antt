@@ -1,6 +1,5 @@
 -- States at any time, and what runs do.
 use Rattle.std.proofs.Common.{◌≡◌, ◌↔◌, ℕ, suc, ◌+◌, ◌<◌, ◌≤◌, ◌⊎◌, inl, inr, ⊎_elim, List, [], ◌∷◌, ◌++◌, length, slice_get, Some, Contains, Result, Ok, Err, OnErr, is_err, refl, sym, ap, ◌∙◌, subst, arith, length-append}
-use Rattle.std.specs.List.{AllByRecursion}
 use Rattle.std.proofs.lemmas.Bool.{false≢true}
 use Rattle.std.proofs.lemmas.Bool.Decides.{eqb_tells}
 use Rattle.std.proofs.lemmas.List.Elements.{Contains-append_cases, Contains-push_cases}
@@ -10,14 +9,13 @@ use Rattle.std.specs.List.{range_with_len}
 use Rattle.axioms.specs.WellFormedness.{AreDistinct}
 use Rattle.axioms.proofs.Growing.{AreDistinct-push}
 use Rattle.facts.specs.declared.contexts.Fact.{Fact}
-use Rattle.facts.specs.Closure.{Problem, AreFacts, given, none, more as more_facts}
+use Rattle.facts.specs.Closure.{Problem, none}
 use Rattle.inference.specs.declared.known_facts.Stop.TheVariants.{Limit}
 use Rattle.inference.specs.Derivations.{Derived, Grows}
-use Rattle.inference.specs.Completeness.{IsClosure, IsServed}
-use Rattle.inference.proofs.Owing.{loop_is_fact}
+use Rattle.inference.specs.Completeness.{IsClosure}
 use Rattle.inference.proofs.Lists.{Contains-from_slice_get, slice_get-from_Contains, keeps_push}
 use Rattle.saturate.specs.Turns.{Queued}
-use Rattle.saturate.specs.State.{Seen, AreBorn, Extends, IsUnderWay}
+use Rattle.saturate.specs.State.{Seen, Extends, IsUnderWay}
 use Rattle.saturate.specs.Run.{HasRun, IsState, IsStep, AreSteps, IsRun, IsLeft, IsRunUntil, IsFinished}
 use Rattle.lemmas.proofs.Members.{Contains-first, Contains-later}
 use Rattle.number_sets.proofs.Members.{length-le_from_below}
@@ -27,22 +25,6 @@ use Rattle.saturate.proofs.States.{finished, grown, too_many}
 
 pub seen_state : {k : Problem} {d : Derived} {q : Queued} → IsUnderWay k d q → AreDistinct q.served → IsState (record { problem = k; facts = d.facts; births = d.births; served = q.served })
 seen_state s once = record { born = s.derived; within = s.within; once = once; complete = s.complete }
-
--- a state whose facts are the closure, whichever were served
-pub closed_state : (s : Seen) → AreBorn s → IsClosure s.problem s.facts → ((n : ℕ) → Contains s.served n → n < length s.facts) → AreDistinct s.served → IsState s
-closed_state s born closure within once = record {
-  born = born;
-  within = within;
-  once = once;
-  complete = record {
-    given = λ older served condition form f gives. inl ((closure f).1 (given condition form older gives (facts older served)));
-    loops = λ x n there entry form is f l. (closure f).1 (loop_is_fact born x n entry form is f l);
-  };
-}
-  where
-    facts : (older : List Fact) → AllByRecursion (IsServed s.facts s.served) older → AreFacts s.problem older
-    facts [] all = none
-    facts (f ∷ fs) all = more_facts ((closure f).0 (Contains-from_slice_get s.facts all.0.0 f all.0.2)) (facts fs all.1)
 
 -- ---- all numbers below a count
 

@@ -10,7 +10,7 @@ use Rattle.std.proofs.lemmas.List.Sorted.{Contains-permutation, IsPermutation-ap
 use Rattle.std.specs.List.Sorted.{IsPermutation}
 use Rattle.std.proofs.lemmas.List.Elements.{Contains-append_left, Contains-push, Contains-push_cases}
 use Rattle.work_list.specs.declared.item.Item.{Item}
-use Rattle.work_list.specs.Bag.{is_item, often, Adds, HaveSameItems, Pops}
+use Rattle.work_list.specs.Bag.{is_item, often, Adds, HaveSameItems}
 use Rattle.saturate.specs.Flags.{asked, is_flagged, is_kept, kept}
 use Rattle.axioms.specs.WellFormedness.{AreDistinct}
 use Rattle.axioms.proofs.Growing.{AreDistinct-push}
@@ -146,10 +146,6 @@ just_taken {queued = queued} {served = served} taken x q all =
       none = λ e. absurd (none-some x (sym e ∙ at));
     }
 
--- a number waits, so not all that were queued were served
-pub one_waits : {waiting : List Item} {queued served : ℕ} {taken : List ℕ} → IsQueue waiting queued taken served → (length waiting ≡ 0 → ⊥) → length (take served taken) < queued
-one_waits {waiting = waiting} {served = served} {taken = taken} q some = simp length-take (⊎_elim (λ w. absurd (some w.1)) (λ w. omega (arith, q.tally, w.1)) (eqb_tells (length waiting) 0))
-
 -- what was served was queued
 pub few_served : {waiting : List Item} {queued served : ℕ} {taken : List ℕ} → IsQueue waiting queued taken served → length (take served taken) ≤ queued
 few_served {queued = queued} {served = served} {taken = taken} q = simp length-take (omega (arith, q.tally))
@@ -252,10 +248,6 @@ named_more facts old new n f named at s x lt = go (is_item x (item n (context_nu
         (f, subst (λ (m : ℕ). slice_get facts m ≡ Some f) (sym same.0) at, same.1)
     go false e = named x (omega (arith, lt, adds_none s x e))
 
--- those of fewer
-pub named_among : (facts : List Fact) (some all : List Item) → AreAmong some all → NameTheirContexts facts all → NameTheirContexts facts some
-named_among facts some all among named x lt = named x (among x lt)
-
 -- where facts are added
 pub named_still : (old new : List Fact) (waiting : List Item) → Keeps old new → NameTheirContexts old waiting → NameTheirContexts new waiting
 named_still old new waiting keeps named x lt = (let w = named x lt in (w.0, keeps x.fact w.0 w.1, w.2))
@@ -270,17 +262,6 @@ none_named facts waiting none x lt = absurd (omega (arith, lt, nothing waiting (
 
 pub still : {old new : List Item} (x : Item) → HaveSameItems old new → StillAdds x old x new
 still x same all adds = record { each = λ y. omega (arith, adds.each y, same.each y); total = omega (arith, adds.total, same.total) }
-
--- one waits again, and another is popped
-swapped : {old led back new : List Item} (x y : Item) → HaveSameItems old led → Adds x led back → Adds y new back → StillAdds x old y new
-swapped x y same put popped all adds = record {
-  each = λ z. omega (arith, adds.each z, same.each z, put.each z, popped.each z);
-  total = omega (arith, adds.total, same.total, put.total, popped.total);
-}
-
-pub swapped_for : (other : Option Item) {old led back : List Item} (new : List Item) (x : Item) → HaveSameItems old led → Adds x led back → Pops other back new → IfSome other (λ y. StillAdds x old y new)
-swapped_for None new x same put popped = tt
-swapped_for (Some y) new x same put popped = swapped x y same put popped
 
 -- likewise where the same items waited before
 pub led_some : (other : Option Item) {old led : List Item} (new : List Item) (x : Item) → HaveSameItems old led → IfSome other (λ y. StillAdds x led y new) → IfSome other (λ y. StillAdds x old y new)

@@ -1,24 +1,16 @@
 -- What a session says of a text of axioms.
 use Rattle.std.proofs.Common.{◌≡◌, ◌↔◌, ◌++◌, Bool, true, ℕ, List, Result, Ok, Err, IfOk, IfErr, OnOk}
 use Rattle.axioms.specs.Axiom.{Axiom}
-use Rattle.axioms.specs.Fronts.{Extends}
 use Rattle.axioms.specs.Ontology.{Ontology, axiom_trees}
 use Rattle.engine.specs.Saturations.{IsFinished}
 use Rattle.entailment.specs.Entailment.{Entails}
 use Rattle.entailment.specs.Testers.{IsWithinLimit}
-use Rattle.fs_parser.specs.Name.{Prefixes}
-use Rattle.profile.proofs.Extending.{extends_of}
 use Rattle.profile.specs.AddedTexts.{IsAddedText}
-use Rattle.program.specs.declared.version.Version.{Version}
 use Rattle.session.specs.Additions.{IsWithin}
 use Rattle.session.specs.Entailments.{IsEntailment, IsEntailmentRefusal, IsUntoldOf}
 use Rattle.session.specs.Sessions.{Opened}
 use Rattle.session.specs.declared.entails_fault.EntailsFault.{EntailsFault}
 use Rattle.session.specs.declared.entails_fault.EntailsFault.TheVariants.{Unfinished, Statements, UnknownName, TooManyNames, Limit, Memory}
-
--- an ontology that a text is added to has grown
-pub text_extends : (version : Version) (prefixes : Prefixes) (text : List ℕ) (old new : Ontology) → IsAddedText version prefixes text old new → Extends old new
-text_extends version prefixes text old new is = extends_of _ _ _ _ old new is.added.adds
 
 module _ (s : Opened) (text : List ℕ) (new : Ontology) (finished : IsFinished s.saturation) (within : IsWithin s text) (is : IsAddedText s.version s.prefixes text s.ontology new) where
   pub entailment : (r : Result Bool EntailsFault) → OnOk r (new.names ≡ s.ontology.names)

@@ -3,8 +3,7 @@ use Rattle.std.proofs.Common.{◌≡◌, ◌∙◌, ◌+◌, ◌-◌, ◌<◌, �
 use Rattle.std.specs.Prelude.{slice_get}
 use Rattle.std.specs.List.{Contains}
 use Rattle.std.proofs.KnownBytes.{Consumes-nil, Consumes-trans}
-use Rattle.std.proofs.lemmas.List.{append_cancel_right, nil_from_length, take_all, take_more}
-use Rattle.std.proofs.lemmas.List.Elements.{Contains-append_right}
+use Rattle.std.proofs.lemmas.List.{nil_from_length, take_all, take_more}
 use Rattle.std.proofs.lemmas.Option.{get_or_from_slice_get, slice_get-get_or, slice_get_within}
 use Rattle.std.proofs.Math.Seq.{get_or-append_right, take-append_seam}
 use Rattle.std.proofs.Math.ListN.{get_or-append}
@@ -57,16 +56,6 @@ reads_on a b s t u xs h k = record {
 }
 
 -- ---- line feeds
-
-feed_in : (xs : List ℕ) → Contains (xs ++ (10 ∷ [])) 10
-feed_in xs = Contains-append_right xs (10 ∷ []) 10 (0, omega arith, refl)
-
--- a line that ends with a line feed has no other one
-pub single_feed : (hand line : List ℕ) → hand ≡ line ++ (10 ∷ []) → IsWholeLine hand ⊎ (Contains hand 10 → ⊥) → Contains line 10 → ⊥
-single_feed hand line e (inl w) =
-    let same : line ≡ w.front = append_cancel_right line w.front (10 ∷ []) (sym e ∙ w.ended) in
-    subst (λ (l : List ℕ). Contains l 10 → ⊥) (sym same) w.single
-single_feed hand line e (inr none) = absurd (none (subst (λ (l : List ℕ). Contains l 10) (sym e) (feed_in line)))
 
 last_by : (old new : AtHand) (s t : SourceState) → Advances old new s t → ((front : List ℕ) → new.line ≡ front ++ (10 ∷ []) → ⊥) → IsReady new t → IsLast old.ahead s t new.line × (Contains new.line 10 → ⊥)
 last_by old new s t h feedless (inl w) = absurd (feedless w.front w.ended)
@@ -200,9 +189,6 @@ pub record IsPassing (size left : ℕ) (old new : List ℕ) (before after : Sour
   pub passed : List ℕ
   pub comes : Comes old new before after passed
   pub long : length passed + left ≡ size
-
-pub none_passed : (size : ℕ) (ahead : List ℕ) (s : SourceState) → IsPassing size size ahead ahead s s
-none_passed size ahead s = record { passed = []; comes = comes_none ahead s; long = omega arith }
 
 -- one line more
 pub passing_more : (size left rest : ℕ) (a : List ℕ) (old new : AtHand) (s t u : SourceState) → IsPassing size left a old.ahead s t → Advances old new t u → left ≡ rest + length new.line

@@ -2,7 +2,7 @@
 use Rattle.std.proofs.Common.{◌≡◌, ℕ, zero, suc, ◌+◌, ◌<◌, Bool, true, false, inl, inr, List, [], ◌∷◌, ◌++◌, length, get_or, set, Option, Some, None, refl, sym, ap, ◌∙◌, subst, length-append, cond, arith}
 use Rattle.std.specs.Prelude.{Contains, ◌⊎◌, IfNone, IfSome}
 use Rattle.std.proofs.lemmas.Bool.{cases_eq, cases_lt, false≢true}
-use Rattle.std.proofs.lemmas.List.{get_or-map, get_or-set_other, get_or_past, length-map, set-get_or}
+use Rattle.std.proofs.lemmas.List.{get_or-map, get_or_past, length-map, set-get_or}
 use Rattle.std.proofs.lemmas.List.Elements.{Contains-append_cases, Contains-append_left, Contains-append_right, Contains-push}
 use Rattle.std.proofs.lemmas.List.Sums.{sum_by-append, sum_by-cons}
 use Rattle.number_sets.specs.Members.{has}
@@ -61,9 +61,6 @@ popped ls ms c fact low is last =
     subst (λ (xs : List (List ℕ)). Adds (item_of c fact) (items_in xs) (items_in ls)) (sym is)
     (subst (λ (xs : List (List ℕ)). Adds (item_of c fact) (items_in (set ls c (get_or ms c []))) (items_in xs)) old
     (added_from 0 c ls c fact (get_or ms c []) (omega arith) low))
-
-pub set_others : (ls ms : List (List ℕ)) (c : ℕ) (l : List ℕ) → ms ≡ set ls c l → (d : ℕ) → (d ≡ c → ⊥) → list_at ms d ≡ list_at ls d
-set_others ls ms c l is d apart = ap (λ (xs : List (List ℕ)). list_at xs d) is ∙ get_or-set_other ls c d l [] apart
 
 -- where none is taken out, nothing changes
 pub unchanged : (ls ms : List (List ℕ)) (c : ℕ) → ms ≡ set ls c (get_or ms c []) → get_or ls c [] ≡ get_or ms c [] → ms ≡ ls

@@ -1,4 +1,4 @@
-use Rattle.std.proofs.Common.{List, [], Bool, not, sym, ap, ◌∙◌}
+use Rattle.std.proofs.Common.{List, [], Bool, sym, ap, ◌∙◌}
 use Rattle.std.specs.List.{list_any}
 use Rattle.std.proofs.lemmas.Option.{get_or_from_slice_get}
 use Rattle.number_sets.proofs.Absent.{none_at}

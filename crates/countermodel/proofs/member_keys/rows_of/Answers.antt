@@ -1,4 +1,4 @@
-use Rattle.std.proofs.Common.{ℕ, List, map, take, sym, subst, subst₂, ap}
+use Rattle.std.proofs.Common.{ℕ, List, map, take, sym, subst, subst₂}
 use Rattle.certificate.specs.View.{class_row_of}
 use Rattle.certificate.specs.declared.listed.ClassRow.{ClassRow}
 use Rattle.countermodel.specs.Members.{AddsMember, AreRowsBy, HasKey}

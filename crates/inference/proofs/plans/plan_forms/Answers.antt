@@ -1,5 +1,3 @@
-use Rattle.std.proofs.Common.{ℕ, List, Contains, ap, subst}
-use Rattle.inference.proofs.Drawing.{each}
 use Rattle.inference.proofs.Planning.{also_more}
 use Rattle.inference.proofs.plans.plan_forms.Goals as goal
 

@@ -3,7 +3,6 @@ use Rattle.std.proofs.lemmas.List.Elements.{Contains-get_or}
 use Rattle.closure.specs.Closure.{Expression, Individual}
 use Rattle.countermodel.specs.Elements.{contexts_of}
 use Rattle.countermodel.specs.Leading.{IsElementBy}
-use Rattle.countermodel.specs.Sets.{IsWithin}
 use Rattle.countermodel.proofs.Listing.{all_done}
 use Rattle.countermodel.proofs.PlacedExpressions.{expressions_in_order}
 use Rattle.countermodel.proofs.elements.Elements.of_expressions.Goals as goal
