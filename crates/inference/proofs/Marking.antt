@@ -1,5 +1,5 @@
 -- Marks of facts and masks of properties: that they stay right, and what they tell.
-use Rattle.std.proofs.Common.{◌≡◌, ℕ, Bool, true, false, eqb-true, not, nat_eq, ◌*◌, ◌^◌, ◌<◌, ◌%◌, ⊎_elim, List, [], ◌∷◌, ◌++◌, ◌+◌, length, slice_get, Some, None, Option, refl, sym, ap, subst, true≢false, ◌∙◌, arith}
+use Rattle.std.proofs.Common.{◌≡◌, ℕ, Bool, true, false, eqb-true, not, nat_eq, ◌*◌, ◌^◌, ◌<◌, ◌%◌, ⊎_elim, List, [], ◌∷◌, ◌++◌, ◌+◌, length, slice_get, take, Some, None, Option, refl, sym, ap, subst, true≢false, ◌∙◌, arith}
 use Rattle.std.proofs.lemmas.Nat.Bits.{bit_at_and, bit_at_or, bit_at-zero, bit_at_ones, bit_at-lt, bit_at-pow_same}
 use Rattle.std.proofs.Math.Pow.{pow-lt}
 use Rattle.std.proofs.lemmas.List.{length_push}
@@ -21,12 +21,20 @@ use Rattle.inference.specs.Derivations.{Keeps}
 use Rattle.inference.specs.Visits.{GiveNothing, IsBy, IsEdge}
 use Rattle.inference.specs.Marks.{AreMarks, bit_of, HasBit, HasSeconds, HasEnds, HasAbove, HasFilled, HasSecondsOf, HasEndsOf, HasAboveOf, HasFilledOf}
 use Rattle.inference.proofs.Giving.{by_form_or_back}
-use Rattle.inference.proofs.Lists.{slice_get_push_cases}
+use Rattle.lemmas.proofs.Places.{take_slice_get}
+use Rattle.inference.proofs.Lists.{slice_get_push_cases, slice_get_take}
 
 -- ---- marks
 
 pub marks_of_more : (facts more : List Fact) (marks : List ℕ) → Keeps facts more → AreMarks facts marks → AreMarks more marks
 marks_of_more facts more marks keeps are n mark at = let o = are n mark at in (o.0, keeps n o.0 o.1, o.2)
+
+-- the first so many facts and marks
+pub marks_of_first : (facts : List Fact) (marks : List ℕ) (len : ℕ) → AreMarks facts marks → AreMarks (take len facts) (take len marks)
+marks_of_first facts marks len are n mark at =
+    let there = slice_get_take len marks n mark at in
+    let fact = are n mark there.1 in
+    (fact.0, take_slice_get len facts n fact.0 there.0 fact.1, fact.2)
 
 -- ---- masks
 

@@ -1,7 +1,7 @@
 //! The facts so far, and what gave them.
 ghost use Rattle.facts.specs.Births.{reason};
 ghost use Rattle.inference.specs.Derivations.{with_fact};
-ghost use Rattle.inference.specs.ClassNumbers.{IsAboveClasses};
+ghost use Rattle.inference.specs.ClassNumbers.{IsAboveClass, IsAboveClasses};
 ghost use Rattle.inference.specs.Flags.{HasEntryFacts};
 ghost use Rattle.inference.specs.Marks.{AreMarks, IsMark};
 ghost use Rattle.inference.specs.Visits.{IsBy};
@@ -66,13 +66,23 @@ impl Model for KnownFacts {
     ghost invariant = { λ s. AreMarks s.facts s.marks.items × AreFlags (record { facts = s.facts; births = map reason s.births.items }) s.entered × IsAboveClasses s.end s.facts };
 }
 
-/// The number behind that of the expression into which the fact puts something, or 0 where it does so into none.
+/// A number above that of the class, where it is an expression.
+fn end_of_class(class: Class2) -> usize
+    ensures { IsAboveClass result class }
+{
+    match class {
+        Class2::Expr(class) => class.index() + 1,
+        Class2::Partial(_) => 0,
+    }
+}
+
+/// A number above that of the expression into which the fact puts something, where it puts something into one.
 fn end_of(fact: Fact) -> usize
     ensures { IsAboveClasses result (fact ∷ []) }
 {
     match fact {
-        Fact::In(Class2::Expr(class), _) => class.index() + 1,
-        Fact::In(Class2::Partial(_), _) | Fact::Edge(..) => 0,
+        Fact::In(class, _) => end_of_class(class),
+        Fact::Edge(..) => 0,
     }
 }
 

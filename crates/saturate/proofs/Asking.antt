@@ -409,5 +409,5 @@ asked_later end all added f each lists asked = ⊎_elim
 pub none_later : (end : ℕ) (facts : List Fact) (f : Fact) → IsAboveClasses end facts → Contains facts f → IsInLater end f → ⊥
 none_later end facts f above there later =
     let e = later.3.0 in
-    let low = above e later.1 (subst (Contains facts) (later.2 ∙ ap (λ (a : Class2). In a later.1) later.3.1) there) in
+    let low = above.above e later.1 (subst (Contains facts) (later.2 ∙ ap (λ (a : Class2). In a later.1) later.3.1) there) in
     omega (arith, low, later.3.2)

@@ -13,6 +13,6 @@ invariant_of-self-then-is_new c =
     let before = c.self.inside in
     let births : map reason c.push_reserved.new.self.items ≡ map reason before.births.items ++ reason c.args.birth ∷ [] = cc (c.push_reserved.ensures.items, c.reserve.ensures.items, map-append reason before.births.items (c.args.birth ∷ [])) in (
       marks_of_more before.facts c.insert.new.self before.marks.items (rw pushed (keeps_push before.facts c.args.fact)) c.self.invariant.0,
-      rw (pushed, births) (flags_of_more (record { facts = before.facts; births = map reason before.births.items }) c.args.fact (reason c.args.birth) before.entered c.self.invariant.1.0),
-      rw pushed (above_one_more before.facts c.args.fact before.end c.end_of.result c.max.result (omega (arith, c.max.ensures)) (omega (arith, c.max.ensures)) c.self.invariant.1.1 c.end_of.ensures),
+      rw (pushed, births) (flags_of_more (record { facts = before.facts; births = map reason before.births.items }) c.args.fact (reason c.args.birth) before.entered c.self.invariant.1),
+      rw pushed (above_one_more before.facts c.args.fact before.end c.end_of.result c.max-self-inside.result (omega (arith, c.max-self-inside.ensures)) (omega (arith, c.max-self-inside.ensures)) c.self.invariant.2 c.end_of.ensures),
     )
