@@ -15,3 +15,4 @@ pub mod NewForms
 pub mod NewLists
 pub mod Staying
 pub mod Removing
+pub mod Summaries

@@ -137,7 +137,7 @@ module _ (k : Problem) (forms : List Form) (lists : ApartLists) (roots : List Co
     };
   }
 
-slice_get_drop : {X : Type 0} (n : ℕ) (xs : List X) (i : ℕ) → slice_get (drop n xs) i ≡ slice_get xs (n + i)
+pub slice_get_drop : {X : Type 0} (n : ℕ) (xs : List X) (i : ℕ) → slice_get (drop n xs) i ≡ slice_get xs (n + i)
 slice_get_drop zero xs i = ap (slice_get xs) (place i)
   where
     place : (j : ℕ) → j ≡ 0 + j

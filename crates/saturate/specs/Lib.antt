@@ -9,4 +9,5 @@ pub mod Flags
 pub mod Growth
 pub mod GoingOn
 pub mod Counts
+pub mod Summaries
 pub mod FinishedStates

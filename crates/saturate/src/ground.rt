@@ -5,45 +5,34 @@ ghost use Rattle.inference.specs.Joins.{AreJoins};
 ghost use Rattle.normal_forms.specs.Apart.{no_lists};
 ghost use Rattle.std.specs.Prelude.{◌≡◌, ◌++◌, [], IfOk, length, take};
 
-use crate::counts::counted;
+use crate::summary::{Summary, say_nothing_new};
 use axioms::Memory;
 use facts::Context;
 use indexes::{Groups, IndexedProblem};
 use inference::Joins;
 use normal_forms::{ApartLists, FormList};
-use property_closure::{PropertyClosure, close};
+use property_closure::PropertyClosure;
 use std::alloc::Global;
 use std::marker::Model;
+use std::rc::Rc;
 
 /// Normal forms, lists of what is apart and the contexts that are there from the start, with what the forms say of properties, which
-/// individuals they make one, and which edges their chains join.
+/// individuals they make one, and which edges their chains join. Grounds whose forms come to the same may have that in the same memory.
 #[derive(Drop)]
 pub struct Ground {
     problem: IndexedProblem,
-    closure: PropertyClosure,
-    groups: Groups,
-    joins: Joins,
+    summary: Rc<Summary>,
 }
 
 impl Model for Ground {
     ghost use Rattle.facts.specs.Closure.{Problem};
-    ghost use Rattle.inference.specs.PropertyClosures.{IsClosureOf};
-    ghost use Rattle.inference.specs.Sameness.{AreGroupsOf};
-    ghost use Rattle.inference.specs.Joins.{AreJoins};
+    ghost use Rattle.saturate.specs.Summaries.{IsSummaryOf};
 
     ghost Value = { Problem };
 
     ghost view = { λ g. g.problem };
 
-    ghost invariant = { λ g. IsClosureOf g.problem.forms g.closure × AreGroupsOf g.problem.forms g.groups × AreJoins g.problem.forms g.joins };
-}
-
-/// What the forms say of properties.
-fn closed(alloc: Global, forms: &FormList) -> Result<PropertyClosure, Memory>
-    ensures { IfOk result (λ c. IsClosureOf forms.now c) }
-{
-    let counts = counted(forms);
-    close(alloc, counts.properties, counts.partials, forms)
+    ghost invariant = { λ g. IsSummaryOf g.problem.forms g.summary.value };
 }
 
 impl Ground {
@@ -53,20 +42,13 @@ impl Ground {
         ensures apart { IfOk result (λ g. g.apart ≡ no_lists) }
         ensures roots { IfOk result (λ g. g.roots ≡ []) }
     {
-        let none = FormList::new(alloc);
-        let groups = Groups::of(alloc, &none)?;
-        let closure = closed(alloc, &none)?;
         let problem = IndexedProblem::empty(alloc);
-        let joins = Joins::of(alloc, &problem, &closure)?;
-        Ok(Ground {
-            problem,
-            closure,
-            groups,
-            joins,
-        })
+        let summary = Rc::new(alloc, Summary::of(alloc, &problem)?)?;
+        Ok(Ground { problem, summary })
     }
 
-    /// These forms, which begin with its own, and lists, and the same contexts with those that are added.
+    /// These forms, which begin with its own, and lists, and the same contexts with those that are added. Where the added forms say
+    /// nothing new, what all come to is in the same memory.
     pub(crate) fn continued(
         &self,
         alloc: Global,
@@ -79,16 +61,15 @@ impl Ground {
         ensures apart { IfOk result (λ g. g.apart ≡ apart.now) }
         ensures roots { IfOk result (λ g. g.roots ≡ self.now.roots ++ roots.now) }
     {
-        let groups = Groups::of(alloc, forms)?;
-        let closure = closed(alloc, forms)?;
+        let from = self.problem.forms().len();
         let problem = self.problem.continued(forms, apart, roots)?;
-        let joins = Joins::of(alloc, &problem, &closure)?;
-        Ok(Ground {
-            problem,
-            closure,
-            groups,
-            joins,
-        })
+        let closure = &self.summary.as_ref().closure;
+        let summary = if say_nothing_new(closure, forms, from) {
+            self.summary.clone()?
+        } else {
+            Rc::new(alloc, Summary::of(alloc, &problem)?)?
+        };
+        Ok(Ground { problem, summary })
     }
 
     /// The forms, lists and contexts.
@@ -102,20 +83,20 @@ impl Ground {
     pub fn closure(&self) -> &PropertyClosure
         ensures { IsClosureOf self.now.forms result.now }
     {
-        &self.closure
+        &self.summary.as_ref().closure
     }
 
     /// Which individuals the forms make one.
     pub fn groups(&self) -> &Groups
         ensures { AreGroupsOf self.now.forms result.now }
     {
-        &self.groups
+        &self.summary.as_ref().groups
     }
 
     /// Which edges the chains join.
     pub(crate) fn joins(&self) -> &Joins
         ensures { AreJoins self.now.forms result.now }
     {
-        &self.joins
+        &self.summary.as_ref().joins
     }
 }

@@ -16,6 +16,7 @@ mod new_lists;
 mod order;
 mod queue;
 mod state;
+mod summary;
 
 pub use facts::{Birth, Context, Fact, FactId, Older, StoredFact};
 pub use finished::Finished;

@@ -1,0 +1,215 @@
+-- What forms come to is as it was where those that are added say nothing new.
+use Rattle.std.proofs.Common.{◌≡◌, ◌↔◌, ℕ, zero, suc, ◌+◌, ◌<◌, ◌≤◌, ◌⊎◌, inl, inr, ⊎_elim, Bool, true, false, true≢false, IsTrue, not, eqb, eqb-true, cond, List, [], ◌∷◌, ◌++◌, length, take, drop, slice_get, Option, Some, None, Contains, refl, sym, ap, ap₂, ◌∙◌, subst, append-nil, length-append, arith}
+use Rattle.std.proofs.lemmas.Bool.{cases_lt, eqb-false}
+use Rattle.std.proofs.lemmas.List.{take-append-drop}
+use Rattle.std.proofs.lemmas.List.Elements.{Contains-append_cases, filter-append}
+use Rattle.std.proofs.lemmas.Option.{none-some, slice_get_past}
+use Rattle.std.specs.List.{filter}
+use Rattle.std.specs.Option.{option_and_then}
+use Rattle.lemmas.proofs.Members.{Contains-first, Contains-later, Contains-from_slice_get, slice_get-from_Contains}
+use Rattle.lemmas.proofs.Places.{slice_get_there}
+use Rattle.normal_forms.specs.declared.forms.Class2.{Class2}
+use Rattle.normal_forms.specs.declared.forms.Form.{Form}
+use Rattle.normal_forms.specs.declared.forms.Form.TheVariants.{N1, N2, N3, N4, N5, N6, N7, N8, N9, N10, N12}
+use Rattle.normal_forms.specs.declared.forms.PropId2.{PropId2}
+use Rattle.normal_forms.specs.declared.forms.PropId2.TheVariants.{Property}
+use Rattle.normal_forms.specs.Properties.{IsAtOrBelow, same, step, is_property_form}
+use Rattle.property_closure.specs.PropertyClosures.{Known, Has}
+use Rattle.indexes.specs.declared.keys.Key.{Key}
+use Rattle.indexes.specs.declared.keys.Key.TheVariants.{Whole}
+use Rattle.indexes.specs.Keys.{by_chain, by_end, by_filler, by_restricted, class_key, property_key}
+use Rattle.indexes.specs.FormsUnderKeys.{IsUnder, is_key, numbers_under}
+use Rattle.indexes.specs.Groups.{is_link}
+use Rattle.inference.specs.declared.plans.PlannedChain.{PlannedChain}
+use Rattle.inference.specs.PropertyClosures.{IsClosureOf, PutsOnEdges}
+use Rattle.inference.specs.Marks.{AreRestrictions, HasAbove, HasEnds, HasFilled, HasSeconds}
+use Rattle.inference.specs.Plans.{IsPlan}
+use Rattle.saturate.specs.declared.summary.Summary.{Summary}
+use Rattle.saturate.specs.Summaries.{IsSummaryOf, SaysNothingNew, SayNothingNew}
+use Rattle.saturate.proofs.Staying.{slice_get_drop}
+
+-- ---- a closure has a property where it lists one above it
+
+pub has_listed : (closure : Known) (p : PropId2) (above : List PropId2) (empty : Bool) → ((q : PropId2) → Contains above q ↔ (Has closure p × IsAtOrBelow closure.forms p q)) → empty ≡ eqb (length above) 0 → IsTrue (not empty) ↔ Has closure p
+has_listed closure p above true exact e = (
+  λ yes. absurd (true≢false (sym yes)),
+  λ has. let there = (exact p).1 (has, same) in absurd (omega (arith, there.1, eqb-true (length above) 0 (sym e))),
+)
+has_listed closure p above false exact e = (
+  λ yes. let q = slice_get_there above 0 (omega (arith, eqb-false (length above) 0 (sym e))) in ((exact q.0).0 (Contains-from_slice_get above 0 q.0 q.1)).0,
+  λ has. refl,
+)
+
+-- ---- what stands at a place of a list with more behind it
+
+at_front_or_behind : {X : Type 0} (xs ys : List X) (n : ℕ) (x : X) → slice_get (xs ++ ys) n ≡ Some x → (slice_get xs n ≡ Some x) ⊎ Contains ys x
+at_front_or_behind [] ys n x at = inr (Contains-from_slice_get ys n x at)
+at_front_or_behind (z ∷ xs) ys zero x at = inl at
+at_front_or_behind (z ∷ xs) ys (suc n) x at = at_front_or_behind xs ys n x at
+
+at_front : {X : Type 0} (xs ys : List X) (n : ℕ) (x : X) → slice_get xs n ≡ Some x → slice_get (xs ++ ys) n ≡ Some x
+at_front [] ys n x at = absurd (none-some x at)
+at_front (z ∷ xs) ys zero x at = at
+at_front (z ∷ xs) ys (suc n) x at = at_front xs ys n x at
+
+none_pass : {X : Type 0} (p : X → Bool) (xs : List X) → ((x : X) → Contains xs x → p x ≡ false) → filter p xs ≡ []
+none_pass p [] none = refl
+none_pass p (x ∷ xs) none = rw (none x (Contains-first x xs)) (none_pass p xs (λ y there. none y (Contains-later x y xs there)))
+
+filter_still : {X : Type 0} (p : X → Bool) (xs ys : List X) → ((x : X) → Contains ys x → p x ≡ false) → filter p (xs ++ ys) ≡ filter p xs
+filter_still p xs ys none = filter-append p xs ys ∙ ap (λ zs. filter p xs ++ zs) (none_pass p ys none) ∙ append-nil (filter p xs)
+
+-- what is added has no key, so the keys are at the same places
+same_keys : {X K : Type 0} (key : X → Option K) (xs ys : List X) → ((x : X) → Contains ys x → key x ≡ None) → (n : ℕ) → option_and_then key (slice_get (xs ++ ys) n) ≡ option_and_then key (slice_get xs n)
+same_keys {X} {K} key [] ys none n = no_key (slice_get ys n) (λ x at. none x (Contains-from_slice_get ys n x at))
+  where
+    no_key : (o : Option X) → ((x : X) → o ≡ Some x → key x ≡ None) → option_and_then key o ≡ None
+    no_key None h = refl
+    no_key (Some x) h = h x refl
+same_keys key (x ∷ xs) ys none zero = refl
+same_keys key (x ∷ xs) ys none (suc n) = same_keys key xs ys none n
+
+-- ---- the forms under a key that none of those that are added has
+
+module _ (key : Form → Option Key) (forms more : List Form) (none : (form : Form) → Contains more form → key form ≡ None) where
+  under_before : (k : Key) (n : ℕ) → IsUnder key (forms ++ more) k n → IsUnder key forms k n
+  under_before k n w = ⊎_elim
+      (λ at. (w.0, at, w.2))
+      (λ new. absurd (none-some k (sym (none w.0 new) ∙ w.2)))
+      (at_front_or_behind forms more n w.0 w.1)
+
+  numbers_still : (k : Key) (n : ℕ) → numbers_under key (slice_get (forms ++ more)) k n ≡ numbers_under key (slice_get forms) k n
+  numbers_still k zero = refl
+  numbers_still k (suc n) = ap₂ (λ (numbers : List ℕ) (o : Option Key). numbers ++ cond (is_key k o) (n ∷ []) []) (numbers_still k n) (same_keys key forms more none n)
+
+  -- past the end there is no number more
+  past_end : (k : Key) (n : ℕ) → length forms ≤ n → numbers_under key (slice_get forms) k n ≡ numbers_under key (slice_get forms) k (length forms)
+  past_end k zero long = let e : 0 ≡ length forms = omega (arith, long) in ap (numbers_under key (slice_get forms) k) e
+  past_end k (suc n) long = ⊎_elim
+      (λ low. let e : suc n ≡ length forms = omega (arith, long, low) in ap (numbers_under key (slice_get forms) k) e)
+      (λ past.
+      ap (λ (o : Option Form). numbers_under key (slice_get forms) k n ++ cond (is_key k (option_and_then key o)) (n ∷ []) []) (slice_get_past forms n past)
+      ∙ append-nil (numbers_under key (slice_get forms) k n)
+      ∙ past_end k n past)
+      (cases_lt n (length forms))
+
+  all_still : (k : Key) → numbers_under key (slice_get (forms ++ more)) k (length (forms ++ more)) ≡ numbers_under key (slice_get forms) k (length forms)
+  all_still k = numbers_still k (length (forms ++ more)) ∙ past_end k (length (forms ++ more)) (omega (arith, length-append forms more))
+
+-- ---- a form that says nothing new
+
+record IsUnlisted (form : Form) : Type 0 where
+  filler : by_filler form ≡ None
+  restricted : by_restricted form ≡ None
+  chain : by_chain form ≡ None
+  end : by_end form ≡ None
+  property : is_property_form form ≡ false
+  link : is_link form ≡ false
+
+unlisted : (closure : Known) (form : Form) → SaysNothingNew closure form → IsUnlisted form
+unlisted closure (N1 _ _) h = record { filler = refl; restricted = refl; chain = refl; end = refl; property = refl; link = refl }
+unlisted closure (N2 _ _ _) h = record { filler = refl; restricted = refl; chain = refl; end = refl; property = refl; link = refl }
+unlisted closure (N3 _ _ _) h = record { filler = refl; restricted = refl; chain = refl; end = refl; property = refl; link = refl }
+unlisted closure (N8 _ _) h = record { filler = refl; restricted = refl; chain = refl; end = refl; property = refl; link = refl }
+unlisted closure (N9 _ _ _) h = record { filler = refl; restricted = refl; chain = refl; end = refl; property = refl; link = refl }
+unlisted closure (N12 _ _ _) h = record { filler = refl; restricted = refl; chain = refl; end = refl; property = refl; link = refl }
+unlisted closure (N4 _ _ _) h = absurd h
+unlisted closure (N5 _ _) h = absurd h
+unlisted closure (N6 _ _ _) h = absurd h
+unlisted closure (N7 _) h = absurd h
+unlisted closure (N10 _ _) h = absurd h
+
+has_edges : (closure : Known) (form : Form) → SaysNothingNew closure form → (p : PropId2) → PutsOnEdges form p → Has closure p
+has_edges closure (N3 _ r _) h p puts = subst (Has closure) (sym puts) h
+has_edges closure (N9 _ r _) h p puts = subst (Has closure) (sym puts) h
+has_edges closure (N1 _ _) h p puts = absurd puts
+has_edges closure (N2 _ _ _) h p puts = absurd puts
+has_edges closure (N8 _ _) h p puts = absurd puts
+has_edges closure (N12 _ _ _) h p puts = absurd puts
+has_edges closure (N4 _ _ _) h p puts = absurd h
+has_edges closure (N5 _ _) h p puts = absurd h
+has_edges closure (N6 _ _ _) h p puts = absurd h
+has_edges closure (N7 _) h p puts = absurd h
+has_edges closure (N10 _ _) h p puts = absurd h
+
+-- ---- where such forms are added
+
+module _ (forms more : List Form) (closure : Known) (plain : (form : Form) → Contains more form → SaysNothingNew closure form) where
+  closure_still : IsClosureOf forms closure → IsClosureOf (forms ++ more) closure
+  closure_still is = record {
+    same = is.same ∙ sym (filter_still is_property_form forms more (λ form new. (unlisted closure form (plain form new)).property));
+    has = λ form there p puts. ⊎_elim
+        (λ before. is.has form before p puts)
+        (λ new. has_edges closure form (plain form new) p puts)
+        (Contains-append_cases forms more form there);
+  }
+
+  -- no path is new
+  below_before : (p q : PropId2) → IsAtOrBelow (forms ++ more) p q → IsAtOrBelow forms p q
+  below_before p _ same = same
+  below_before p _ (step s t h there) = ⊎_elim
+      (λ before. step s t (below_before p (Property s) h) before)
+      (λ new. absurd (plain (N5 s t) new))
+      (Contains-append_cases forms more (N5 s t) there)
+
+  chain_before : (n : ℕ) (r s t : PropId2) → slice_get (forms ++ more) n ≡ Some (N6 r s t) → slice_get forms n ≡ Some (N6 r s t)
+  chain_before n r s t at = ⊎_elim (λ before. before) (λ new. absurd (plain (N6 r s t) new)) (at_front_or_behind forms more n (N6 r s t) at)
+
+  by_chain_before : (k : Key) (n : ℕ) → IsUnder by_chain (forms ++ more) k n → IsUnder by_chain forms k n
+  by_chain_before = under_before by_chain forms more (λ form new. (unlisted closure form (plain form new)).chain)
+
+  seconds_still : (mask : ℕ) (p : PropId2) → HasSeconds forms mask p → HasSeconds (forms ++ more) mask p
+  seconds_still mask p has r below n under q s t at = has r (below_before p r below) n (by_chain_before (property_key r) n under) q s t (chain_before n q s t at)
+
+  ends_still : (mask : ℕ) (p : PropId2) → HasEnds forms mask p → HasEnds (forms ++ more) mask p
+  ends_still mask p has s below n under = has s (below_before p s below) n (under_before by_end forms more (λ form new. (unlisted closure form (plain form new)).end) (property_key s) n under)
+
+  above_still : (mask : ℕ) (p : PropId2) → HasAbove forms mask p → HasAbove (forms ++ more) mask p
+  above_still mask p has r below = has r (below_before p r below)
+
+  filled_still : (mask : ℕ) (c : Class2) → HasFilled forms mask c → HasFilled (forms ++ more) mask c
+  filled_still mask c has = record {
+    restrictions = λ n under r a b at. ⊎_elim
+        (λ before. has.restrictions n (under_before by_filler forms more (λ form new. (unlisted closure form (plain form new)).filler) (class_key c) n under) r a b before)
+        (λ new. absurd (plain (N4 r a b) new))
+        (at_front_or_behind forms more n (N4 r a b) at);
+    all = has.all;
+  }
+
+  restrictions_still : (lists : List (List ℕ)) → AreRestrictions forms lists → AreRestrictions (forms ++ more) lists
+  restrictions_still lists are r = are r ∙ sym (all_still by_restricted forms more (λ form new. (unlisted closure form (plain form new)).restricted) (Whole r))
+
+  plan_still : (p : PropId2) (plan : List PlannedChain) → IsPlan forms p plan → IsPlan (forms ++ more) p plan
+  plan_still p plan is = record {
+    say = λ c there. at_front forms more c.number (N6 c.first c.second c.whole) (is.say c there);
+    has = λ r below n under. is.has r (below_before p r below) n (by_chain_before (property_key r) n under);
+  }
+
+  summary_still : (summary : Summary) → summary.closure ≡ closure → IsSummaryOf forms summary → IsSummaryOf (forms ++ more) summary
+  summary_still summary is of = record {
+    closure = subst (IsClosureOf (forms ++ more)) (sym is) (closure_still (subst (IsClosureOf forms) is of.closure));
+    groups = of.groups ∙ sym (filter_still is_link forms more (λ form new. (unlisted closure form (plain form new)).link));
+    joins = record {
+      seconds = λ n mask at. seconds_still mask _ (of.joins.seconds n mask at);
+      ends = λ n mask at. ends_still mask _ (of.joins.ends n mask at);
+      above = λ n mask at. above_still mask _ (of.joins.above n mask at);
+      filled = λ n mask at. filled_still mask _ (of.joins.filled n mask at);
+      restrictions = restrictions_still summary.joins.restrictions of.joins.restrictions;
+      plans = λ n plan at. plan_still _ plan (of.joins.plans n plan at);
+    };
+  }
+
+kept_by_lists : (old now : List Form) (summary : Summary) → take (length old) now ≡ old → SayNothingNew summary.closure (length old) now → IsSummaryOf old summary → IsSummaryOf now summary
+kept_by_lists old now summary front nothing of = subst (λ (forms : List Form). IsSummaryOf forms summary) all (summary_still old (drop (length old) now) summary.closure plain summary refl of)
+  where
+    all : old ++ drop (length old) now ≡ now
+    all = ap (λ (forms : List Form). forms ++ drop (length old) now) (sym front) ∙ take-append-drop (length old) now
+
+    plain : (form : Form) → Contains (drop (length old) now) form → SaysNothingNew summary.closure form
+    plain form there =
+        let at = slice_get-from_Contains (drop (length old) now) form there in
+        nothing (length old + at.0) form (omega arith) (sym (slice_get_drop (length old) now at.0) ∙ at.1)
+
+-- so it is for the forms that are there then, and the summary that is taken over
+pub kept : (old now forms : List Form) (from : ℕ) (seen before after : Summary) → take (length old) now ≡ old → forms ≡ now → from ≡ length old → seen ≡ before → after ≡ before → SayNothingNew seen.closure from now → IsSummaryOf old before → IsSummaryOf forms after
+kept old now forms from seen before after front is long same_seen same_after nothing of = rw (is, same_after) (kept_by_lists old now before front (rw (same_seen, long) at nothing) of)
