@@ -20,7 +20,7 @@ pub record IsSummaryOf (forms : List Form) (summary : Summary) : Type 0 where
 pub IsSummaryOf-prop : (forms : List Form) (summary : Summary) → IsProp (IsSummaryOf forms summary)
 IsSummaryOf-prop forms summary = Prim.hlevel (logic.props, IsClosureOf-prop, AreGroupsOf-prop, AreJoins-prop)
 
--- the form is not of properties, no restriction, and makes no individuals one; what it puts on edges the closure has
+-- the form is not of properties and no restriction, it makes no individuals one, and what it puts on edges the closure has
 abbrev pub SaysNothingNew : Known → Form → Type 0
 SaysNothingNew closure (N1 a b) = Unit {0}
 SaysNothingNew closure (N2 a b c) = Unit {0}

@@ -1,5 +1,4 @@
 //! What forms come to, whatever the facts are, and which further forms leave it as it is.
-ghost use Rattle.axioms.specs.declared.ids.PropId.{PropId as PropId3};
 ghost use Rattle.inference.specs.PropertyClosures.{IsClosureOf};
 ghost use Rattle.normal_forms.specs.declared.forms.PropId2.TheVariants as properties;
 ghost use Rattle.property_closure.specs.PropertyClosures.{Has};
