@@ -1,5 +1,6 @@
 pub mod Joining
 pub mod Turns
+pub mod Parting
 pub mod States
 pub mod Listing
 pub mod Exact

@@ -1,17 +1,20 @@
 -- A number that is queued, and one that is taken from the list.
 use Rattle.std.proofs.Common.{◌≡◌, ℕ, ◌+◌, ◌<◌, ◌≤◌, inl, inr, ⊎_elim, Bool, true, false, true≢false, not, eqb, get_or, if◌then◌else◌, List, [], ◌∷◌, ◌++◌, length, take, drop, slice_get, Option, Some, None, IfNone, IfSome, Contains, refl, sym, ap, ◌∙◌, subst, arith, length-append}
-use Rattle.std.proofs.lemmas.Bool.Decides.{eqb_tells, nat_tests}
-use Rattle.std.proofs.lemmas.Bool.{cases_lt}
+use Rattle.std.proofs.lemmas.Bool.Decides.{Decides-eqb, eqb_tells, nat_tests}
+use Rattle.std.proofs.lemmas.Bool.{cases_lt, ne_eqb}
 use Rattle.std.proofs.lemmas.Option.{slice_get_within, slice_get-get_or, get_or_from_slice_get, none-some}
 use Rattle.std.proofs.lemmas.Map.Keys.{IsDistinct-IsPermutation, IsDistinct-from_apart, apart_from_distinct}
+use Rattle.std.proofs.lemmas.Map.Made.{is_member-Decides, length-le_from_is_member}
+use Rattle.std.specs.Cmp.{IsEquivalence}
 use Rattle.std.specs.List.{IsDistinct}
-use Rattle.std.proofs.lemmas.List.{nil_from_length, take-append-le, take-append-drop, take_all, length-take}
+use Rattle.std.proofs.lemmas.List.{get_or_append_left, nil_from_length, take-append-le, take-append-drop, take_all, length-take}
 use Rattle.std.proofs.lemmas.List.Sorted.{Contains-permutation, IsPermutation-append_left, IsPermutation-filter_both, IsPermutation-sym, length_permutation}
 use Rattle.std.specs.List.Sorted.{IsPermutation}
 use Rattle.std.proofs.lemmas.List.Elements.{Contains-append_left, Contains-push, Contains-push_cases}
 use Rattle.work_list.specs.declared.item.Item.{Item}
 use Rattle.work_list.specs.Bag.{is_item, often, Adds, HaveSameItems}
-use Rattle.saturate.specs.Flags.{asked, is_flagged, is_kept, kept}
+use Rattle.normal_forms.proofs.Filters.{passes}
+use Rattle.saturate.specs.Flags.{asked, is_flagged, is_kept, kept, AreThoseFlagged}
 use Rattle.axioms.specs.WellFormedness.{AreDistinct}
 use Rattle.axioms.proofs.Growing.{AreDistinct-push}
 use Rattle.facts.specs.declared.contexts.Fact.{Fact}
@@ -167,8 +170,27 @@ none_waits {waiting = waiting} {served = served} {taken = taken} q most =
 
 -- ---- no number was taken twice
 
-differ : (x y : ℕ) → (x ≡ y → ⊥) → eqb x y ≡ false
-differ x y apart = ⊎_elim (λ w. absurd (apart w.1)) (λ w. w.0) (eqb_tells x y)
+one_equality : IsEquivalence eqb
+one_equality = record {
+  refl = λ x. grind (arith, nat_tests);
+  symm = λ x y. grind (arith, nat_tests);
+  congr = λ x y z e. grind (arith, nat_tests);
+}
+
+-- a test finds no number twice
+pub apart_by_test : (xs : List ℕ) → AreDistinct xs → IsDistinct eqb xs
+apart_by_test xs distinct = IsDistinct-from_apart eqb xs (λ i j d low within. ne_eqb (get_or xs i d) (get_or xs j d) (λ e. absurd (different i j d low within e)))
+  where
+    different : (i j d : ℕ) → i < j → j < length xs → get_or xs i d ≡ get_or xs j d → ⊥
+    different i j d low within e =
+        let one : i ≡ j = distinct i j (get_or xs j d) (slice_get-get_or xs i d (omega (arith, low, within)) ∙ ap Some e) (slice_get-get_or xs j d within) in
+        absurd (omega (arith, one, low))
+
+-- different numbers of a list are at most as many as it has
+pub at_most_as_many : (xs ys : List ℕ) → AreDistinct xs → ((n : ℕ) → Contains xs n → Contains ys n) → length xs ≤ length ys
+at_most_as_many xs ys distinct each =
+    length-le_from_is_member one_equality xs ys (apart_by_test xs distinct)
+    (λ n there. (is_member-Decides Decides-eqb ys n).1 (each n ((is_member-Decides Decides-eqb xs n).0 there)))
 
 same_place : (xs : List ℕ) → IsDistinct eqb xs → (m n x : ℕ) → m < n → slice_get xs m ≡ Some x → slice_get xs n ≡ Some x → ⊥
 same_place xs distinct m n x low a b =
@@ -178,10 +200,7 @@ same_place xs distinct m n x low a b =
 
 distinct_moved : (xs ys : List ℕ) → IsPermutation xs ys → AreDistinct xs → AreDistinct ys
 distinct_moved xs ys p distinct m n x a b =
-    let before = IsDistinct-from_apart eqb xs (λ i j d low within. differ (get_or xs i d) (get_or xs j d) (λ e.
-    let at : slice_get xs i ≡ Some (get_or xs i d) = slice_get-get_or xs i d (omega (arith, low, within)) in
-    omega (arith, low, distinct i j (get_or xs i d) at (slice_get-get_or xs j d within ∙ ap Some (sym e))))) in
-    let after = IsDistinct-IsPermutation eqb (λ i j. grind (arith, nat_tests)) xs ys p before in
+    let after = IsDistinct-IsPermutation eqb (λ i j. grind (arith, nat_tests)) xs ys p (apart_by_test xs distinct) in
     ⊎_elim (λ low. absurd (same_place ys after m n x low a b))
     (λ high. ⊎_elim (λ w. w.1) (λ w. absurd (same_place ys after n m x (omega (arith, high, w.1)) b a)) (eqb_tells m n))
     (cases_lt m n)
@@ -235,6 +254,26 @@ front_kept flags served taken =
     let ys : List ℕ = asked flags (take served taken) in
     let zs : List ℕ = drop served taken in
     take-append-le (length xs) (xs ++ ys) zs (omega (arith, length-append xs ys)) ∙ take-append-le (length xs) xs ys (omega arith) ∙ take_all (length xs) xs (omega arith)
+
+-- as many as before
+pub still_long : (flags : List Bool) (served : ℕ) (taken : List ℕ) → length (kept flags (take served taken) ++ asked flags (take served taken) ++ drop served taken) ≡ length taken
+still_long flags served taken = length_permutation taken _ (parted flags served taken)
+
+still_there : (xs ys : List ℕ) (n x : ℕ) → slice_get xs n ≡ Some x → slice_get (xs ++ ys) n ≡ Some x
+still_there xs ys n x at =
+    let low : n < length xs = slice_get_within xs n x at in
+    slice_get-get_or (xs ++ ys) n x (omega (arith, low, length-append xs ys)) ∙ ap Some (get_or_append_left xs ys x n low ∙ get_or_from_slice_get xs n x x at)
+
+asked_distinct : (flags : List Bool) (xs : List ℕ) → AreDistinct xs → AreDistinct (asked flags xs)
+asked_distinct flags xs distinct m n x a b =
+    let moves : List ℕ = asked flags xs ++ kept flags xs in
+    distinct_moved xs moves (IsPermutation-filter_both (is_flagged flags) (is_kept flags) (λ _. refl) xs) distinct m n x
+    (still_there (asked flags xs) (kept flags xs) m x a)
+    (still_there (asked flags xs) (kept flags xs) n x b)
+
+-- of different numbers no more are flagged than flags were given
+pub few_asked : (flags : List Bool) (numbers xs : List ℕ) → AreThoseFlagged flags numbers → AreDistinct xs → length (asked flags xs) ≤ length numbers
+few_asked flags numbers xs those distinct = at_most_as_many (asked flags xs) numbers (asked_distinct flags xs distinct) (λ n there. (those n).0 (passes (is_flagged flags) xs n there))
 
 -- ---- what waits names its fact's context
 

@@ -1,5 +1,5 @@
 //! Whose turn it is.
-ghost use Rattle.std.specs.Prelude.{◌≡◌, ◌<◌, ◌≤◌, ◌^◌, ◌+◌, ◌++◌, [], ℕ, None, Some, length, take, Contains, OnOk, OnErr, IfOk};
+ghost use Rattle.std.specs.Prelude.{◌≡◌, ◌<◌, ◌≤◌, ◌^◌, ◌+◌, ◌++◌, [], ℕ, None, Some, drop, length, take, vec_capacity, Contains, OnOk, OnErr, IfOk};
 ghost use Rattle.saturate.specs.Flags.{asked, kept};
 ghost use Rattle.saturate.specs.Turns.{option_list, AreAmong, HasOneMore, HasTurn, IsServedOnce, IsWithoutHand, IsWithoutLast, NameTheirContexts};
 
@@ -32,50 +32,46 @@ impl<W: WorkList> Model for Queue<W> {
     ghost invariant = { λ q. IsQueue (W.pending q.list) q.queued q.taken.items q.served };
 }
 
-/// Adds those of the numbers that are not flagged to the one list, and those that are to the other.
-fn part(
-    still: &mut Vec<u32>,
-    again: &mut Vec<u32>,
-    numbers: &[u32],
-    flags: &Flags,
-) -> Result<(), Memory>
-    ensures still { OnOk result (still.new.items ≡ still.old.items ++ kept flags.now numbers.now) }
-    ensures again { OnOk result (again.new.items ≡ again.old.items ++ asked flags.now numbers.now) }
+/// Moves those of the first numbers that are not flagged to the front, in their order, and adds those that are to the list, which is
+/// empty and has room for them. Tells how many are not.
+fn gather_kept(numbers: &mut [u32], served: usize, again: &mut Vec<u32>, flags: &Flags) -> usize
+    requires served { served ≤ length numbers.old }
+    requires empty { again.old.items ≡ [] }
+    requires room { length (asked flags.now (take served numbers.old)) ≤ vec_capacity again.old }
+    ensures kept { take result numbers.new ≡ kept flags.now (take served numbers.old) }
+    ensures again { again.new.items ≡ asked flags.now (take served numbers.old) }
+    ensures rest { drop served numbers.new ≡ drop served numbers.old }
+    ensures long { length numbers.new ≡ length numbers.old }
+    ensures few { result ≤ served }
 {
-    for number in numbers {
-        if flags.has(*number) {
-            again.push(*number)?;
+    let mut kept = 0;
+    for place in 0..served {
+        let number = numbers[place];
+        if flags.has(number) {
+            again.push_reserved(number);
         } else {
-            still.push(*number)?;
+            if kept < place {
+                numbers[kept] = number;
+            }
+            kept += 1;
         }
     }
-    Ok(())
+    kept
 }
 
-/// Numbers that were taken, of which the first so many are served.
-#[derive(Drop)]
-struct Turns {
-    taken: Vec<u32>,
-    served: usize,
-}
-
-impl Turns {
-    /// The same numbers, of which those that were served and are flagged wait again, behind those that are served still.
-    fn of(alloc: Global, served: &[u32], rest: &[u32], flags: &Flags) -> Result<Turns, Memory>
-        ensures taken { IfOk result (λ t. t.taken.items ≡ kept flags.now served.now ++ asked flags.now served.now ++ rest.now) }
-        ensures served { IfOk result (λ t. t.served ≡ length (kept flags.now served.now)) }
-    {
-        let mut taken = Vec::with_capacity(alloc, served.len().saturating_add(rest.len()))?;
-        let mut again = Vec::new(alloc);
-        part(&mut taken, &mut again, served, flags)?;
-        let kept = taken.len();
-        taken.extend_from_slice(&again)?;
-        taken.extend_from_slice(rest)?;
-        Ok(Turns {
-            taken,
-            served: kept,
-        })
-    }
+/// Moves those of the first numbers that are flagged behind those that are not, by a list that is empty and has room for them. Tells how
+/// many are not.
+fn part(numbers: &mut [u32], served: usize, again: Vec<u32>, flags: &Flags) -> usize
+    requires served { served ≤ length numbers.old }
+    requires empty { again.items ≡ [] }
+    requires room { length (asked flags.now (take served numbers.old)) ≤ vec_capacity again }
+    ensures parted { numbers.new ≡ kept flags.now (take served numbers.old) ++ asked flags.now (take served numbers.old) ++ drop served numbers.old }
+    ensures kept { result ≡ length (kept flags.now (take served numbers.old)) }
+{
+    let mut again = again;
+    let kept = gather_kept(numbers, served, &mut again, flags);
+    numbers[kept..served].copy_from_slice(&again);
+    kept
 }
 
 /// The list without the number, where that is its last.
@@ -299,10 +295,8 @@ impl<W: WorkList> Queue<W> {
         if flags.are_none() {
             return Ok(());
         }
-        let (served, rest) = self.taken.split_at(self.served);
-        let turns = Turns::of(alloc, served, rest, flags)?;
-        self.taken = turns.taken;
-        self.served = turns.served;
+        let again = Vec::with_capacity(alloc, flags.numbers().len())?;
+        self.served = part(&mut self.taken, self.served, again, flags);
         Ok(())
     }
 }
