@@ -86,6 +86,7 @@ impl<L: LineSink> Derivation<L> {
     /// # Errors
     ///
     /// `Memory` where memory was refused, or the sink takes no such line; then nothing changes.
+    #[inline(always)]
     pub(crate) fn add(
         &mut self,
         conclusion: Conclusion,

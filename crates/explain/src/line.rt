@@ -51,6 +51,7 @@ pub(crate) fn conclusion(fact: Fact) -> Option<Conclusion>
 /// # Errors
 ///
 /// `Memory` where memory was refused.
+#[inline(always)]
 pub(crate) fn concluded<L: LineSink>(
     derivation: &mut Derivation<L>,
     fact: Fact,
