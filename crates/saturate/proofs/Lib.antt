@@ -17,3 +17,4 @@ pub mod NewLists
 pub mod Staying
 pub mod Removing
 pub mod Summaries
+pub mod FormKeys

@@ -11,3 +11,4 @@ pub mod GoingOn
 pub mod Counts
 pub mod Summaries
 pub mod FinishedStates
+pub mod FormKeys

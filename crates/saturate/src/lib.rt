@@ -3,9 +3,11 @@
 
 mod additions;
 mod counts;
+mod earlier_forms;
 mod extension;
 mod finished;
 mod flags;
+mod form_keys;
 mod ground;
 mod later_classes;
 mod laws;

@@ -3,6 +3,7 @@ ghost use Rattle.facts.specs.declared.contexts.Fact.{Fact as Fact2};
 ghost use Rattle.saturate.specs.Requests.{AsksNothing, IsAskedByForm, NewFormAsks};
 ghost use Rattle.std.specs.Prelude.{◌≡◌, ◌↔◌, Contains, IfOk, false, take, true};
 
+use crate::earlier_forms::EarlierForms;
 use axioms::Memory;
 use indexes::IndexedProblem;
 use normal_forms::{Form, FormList};
@@ -16,9 +17,9 @@ fn may_ask(form: Form) -> bool
 }
 
 /// Whether the form may ask for facts, and no earlier form is equal to it.
-fn may_ask_anew(earlier: &IndexedProblem, form: Form) -> bool
-    ensures yes { result ≡ true → ¬ Contains earlier.now.forms form }
-    ensures no { result ≡ false → ¬ Contains earlier.now.forms form → AsksNothing form }
+fn may_ask_anew(earlier: &EarlierForms<'_>, form: Form) -> bool
+    ensures yes { result ≡ true → ¬ Contains earlier.now form }
+    ensures no { result ≡ false → ¬ Contains earlier.now form → AsksNothing form }
 {
     may_ask(form) && !earlier.has(form)
 }
@@ -33,10 +34,11 @@ pub(crate) fn new_forms(
     requires { take from forms.now ≡ earlier.now.forms }
     ensures { IfOk result (λ new. (f : Fact2) → IsAskedByForm forms.now new f ↔ NewFormAsks earlier.now.forms forms.now f) }
 {
+    let earlier_forms = EarlierForms::of(alloc, earlier, forms.len().saturating_sub(from))?;
     let mut new = FormList::new(alloc);
     for number in from..forms.len() {
         let form = forms.at(number);
-        if may_ask_anew(earlier, form) {
+        if may_ask_anew(&earlier_forms, form) {
             new.push(form)?;
         }
     }

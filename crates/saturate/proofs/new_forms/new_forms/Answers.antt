@@ -1,4 +1,5 @@
-use Rattle.std.proofs.Common.{arith, inr}
+use Rattle.std.proofs.Common.{List, Contains, arith, inr, subst, sym}
+use Rattle.normal_forms.specs.declared.forms.Form.{Form}
 use Rattle.saturate.proofs.NewForms.{ask_as_new, listed_more, new_pushed, pushed_listed}
 use Rattle.saturate.proofs.new_forms.new_forms.Goals as goal
 use Rattle.saturate.proofs.new_forms.new_forms.Goals.{then-may_ask_anew+in_ok-push, else-may_ask_anew}
@@ -10,14 +11,16 @@ loop-number-preserved c =
     let new = c.loop-number.new in
     let i = c.loop-number.number in
     let form = c.at-form.result in
+    let same = c.in_ok-earlier_forms.ensures in
     elim c.if-may_ask_anew.branch [
       | then-may_ask_anew+in_ok-push w ↦ rw w.new-is (rw w.in_ok-push.ensures.ok (record {
-        each = new_pushed before now i form new c.at-form.ensures (c.may_ask_anew.ensures.yes w.if-may_ask_anew.true) c.loop-number.invariant.each;
+        each = new_pushed before now i form new c.at-form.ensures (subst (λ (forms : List Form). ¬ Contains forms form) same (c.may_ask_anew.ensures.yes w.if-may_ask_anew.true)) c.loop-number.invariant.each;
         listed = pushed_listed before now c.args.from i form new c.at-form.ensures c.loop-number.invariant.listed;
       }))
       | else-may_ask_anew w ↦ rw w.new-is (record {
         each = c.loop-number.invariant.each;
-        listed = listed_more before now c.args.from i form new new c.at-form.ensures c.loop-number.invariant.listed (λ f there. there) (λ is_new. inr (c.may_ask_anew.ensures.no w.if-may_ask_anew.false is_new.1));
+        listed = listed_more before now c.args.from i form new new c.at-form.ensures c.loop-number.invariant.listed (λ f there. there)
+            (λ is_new. inr (c.may_ask_anew.ensures.no w.if-may_ask_anew.false (subst (λ (forms : List Form). ¬ Contains forms form) (sym same) is_new.1)));
       })
     ]
 
