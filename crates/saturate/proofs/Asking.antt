@@ -402,7 +402,7 @@ asks_later end form a names later forms f asks = let w = asks_named forms form a
 pub asked_later : (end : ℕ) (all : List Form) (added : Problem) (f : Fact) → ((n : ℕ) (form : Form) → slice_get added.forms n ≡ Some form → AsksForLater end form) → length added.apart.classes ≡ 0 → IsAsked all added f → IsInLater end f
 asked_later end all added f each lists asked = ⊎_elim
     (λ (w : IsAskedByForm all added.forms f). let at = slice_get-from_Contains added.forms w.0 w.1 in each at.0 w.0 at.1 all f w.2)
-    (λ (w : IsAskedByList added.apart.classes f). omega (arith, w.1.1, lists))
+    (λ (w : IsAskedByList added.apart.classes f). absurd (omega (arith, w.1.1, lists)))
     asked
 
 -- .. and no fact is of a class with such a number

@@ -9,4 +9,4 @@ returns c = λ _ all f asked. asked_later c.args.end all c.args.added.now f
     (λ n form at.
     let low = slice_get_within c.args.added.now.forms n form at in
     c.loop-number.invariant n form (omega (arith, low, c.loop-number-test.false, c.len-number-end.ensures, ap length c.forms.ensures)) at)
-    (omega (arith, c.if-len.false, c.len.ensures, ap (λ (l : ApartLists). length l.classes) c.apart.ensures)) asked
+    (omega (arith, c.if-len-gt0.false, c.len.ensures, ap (λ (l : ApartLists). length l.classes) c.apart.ensures)) asked
