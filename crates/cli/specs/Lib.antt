@@ -6,6 +6,7 @@ pub mod Files
 pub mod HeldTexts
 pub mod Filing
 pub mod Speaking
+pub mod Tasks
 pub mod SpokenSessions
 pub mod Runs
 pub mod Theorems

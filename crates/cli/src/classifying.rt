@@ -1,22 +1,43 @@
-//! Classification of a document.
-ghost use Rattle.source_lines.specs.Sources.{source_state};
+//! Classification of a document, and of one in files.
 ghost use Rattle.cli.specs.Classifications.{Classifies, IsDocumentRead};
-ghost use Rattle.telling.specs.Devices.{seen};
-ghost use Rattle.telling.specs.Progress.{IsProgress};
-ghost use Rattle.session.specs.WrittenTexts.{KeepPaths};
+ghost use Rattle.cli.specs.Runs.{IsClassifyMade, IsClassifyTold, RunsTelling};
 ghost use Rattle.cli.specs.declared.fault.ClassifyFault.TheVariants as faults;
 ghost use Rattle.profile.specs.declared.fault.DocumentFault.TheVariants as document_faults;
+ghost use Rattle.receiving.specs.Files.{store};
+ghost use Rattle.receiving.specs.Runs.{format_of as format_with};
+ghost use Rattle.session.specs.WrittenTexts.{KeepPaths};
+ghost use Rattle.source_lines.specs.Sources.{source_state};
 ghost use Rattle.std.specs.Prelude.{◌+◌, ◌<◌, IsErrOf};
+ghost use Rattle.telling.specs.Devices.{seen};
+ghost use Rattle.telling.specs.Printing.{outputs};
+ghost use Rattle.telling.specs.Progress.{IsProgress};
 
 use crate::fault::ClassifyFault;
+use crate::printing::{classify_message, print_summary};
+use crate::sinks::sinks_of;
 use certificate::Format;
 use classification::Summary;
+use command_line::{Command, FormatNumber, Paths};
 use device::{Sink, Source};
-use profile::Limits;
+use profile::{DocumentFault, Limits};
+use receiving::{Means, format_of, source_of};
 use session::{RunFault, classification_of, write_texts};
 use std::alloc::Global;
 use std::hash::RandomState;
-use telling::{Stage, tell_stage};
+use system_files::Files;
+use telling::{Stage, tell, tell_stage};
+
+/// A classification of a document, whose texts are written into files.
+#[derive(Clone, Copy)]
+pub(crate) struct ClassifyRun<'a> {
+    pub means: Means,
+    pub paths: Paths<'a>,
+    /// That of the certificate.
+    pub format: FormatNumber,
+    pub limits: Limits,
+    /// Whether it tells how far it is.
+    pub progress: bool,
+}
 
 /// Reads the document, classifies it, and writes the taxonomy, the instances and the certificate, which is in the format,
 /// in this order. All three are made in memory before anything is written. Where progress is told, the sink is told how far it is.
@@ -70,4 +91,69 @@ pub fn classify_document<S: Source, T: Sink, I: Sink, C: Sink, W: Sink>(
         }
         Err(number) => Err(ClassifyFault::Io(number)),
     }
+}
+
+/// Classifies the document, and writes its texts into their files, the certificate in the format. Where progress is told, `err` is
+/// told how far it is.
+fn classified_files<F: Files, E: Sink>(
+    run: &ClassifyRun<'_>,
+    files: &mut F,
+    err: &mut E,
+) -> Result<Summary, ClassifyFault>
+    ensures made { IsClassifyMade run.now.paths (format_with run.now.format) run.now.limits (store F.Files files.old files.new) (F.content files.old) (F.content files.new) result }
+    ensures progress { IsProgress run.now.progress (seen E.Sink err.old) (seen E.Sink err.new) }
+{
+    let Ok(mut document) = source_of(files, run.paths.document) else {
+        return Err(ClassifyFault::Document(DocumentFault::Memory));
+    };
+    let Ok(mut sinks) = sinks_of(files, &run.paths) else {
+        return Err(ClassifyFault::Document(DocumentFault::Memory));
+    };
+    let classified = classify_document(
+        run.means.alloc,
+        &mut document,
+        &mut sinks.taxonomy,
+        &mut sinks.instances,
+        &mut sinks.certificate,
+        &run.limits,
+        format_of(run.format),
+        run.progress,
+        err,
+        run.means.state,
+    );
+    files.close(sinks.taxonomy);
+    files.close(sinks.instances);
+    files.close(sinks.certificate);
+    classified
+}
+
+/// Prints the counts, or why the document is not classified.
+fn tell_classified<O: Sink, E: Sink>(
+    run: &ClassifyRun<'_>,
+    answer: Result<Summary, ClassifyFault>,
+    out: &mut O,
+    err: &mut E,
+) -> u8
+    ensures { IsClassifyTold run.now.paths run.now.limits answer (outputs O.Sink E.Sink out.old err.old) (outputs O.Sink E.Sink out.new err.new) result }
+{
+    match answer {
+        Ok(summary) => print_summary(out, &summary),
+        Err(fault) => tell(
+            err,
+            classify_message(run.means.alloc, &fault, &run.paths, &run.limits),
+        ),
+    }
+}
+
+/// Classifies the document, writes its texts, and prints the counts.
+pub(crate) fn perform_classify<F: Files, O: Sink, E: Sink>(
+    run: &ClassifyRun<'_>,
+    files: &mut F,
+    out: &mut O,
+    err: &mut E,
+) -> u8
+    ensures { RunsTelling F.Files O.Sink E.Sink run.now.progress (Command.Classify run.now.paths run.now.format) run.now.limits (files.old, out.old, err.old) (files.new, out.new, err.new) result }
+{
+    let answer = classified_files(run, files, err);
+    tell_classified(run, answer, out, err)
 }

@@ -17,6 +17,7 @@ mod sinks;
 mod slicing;
 mod speaking;
 mod starting;
+mod tasks;
 
 pub use axioms::Ontology;
 pub use cert_check::{Reason, Verdict};

@@ -5,7 +5,7 @@ use Rattle.cli.specs.Runs.{IsClassifyTold}
 use Rattle.cli.specs.Messages.{IsClassifyText, classify_status}
 use Rattle.telling.specs.Printing.{Output}
 use Rattle.cli.specs.declared.fault.ClassifyFault.{ClassifyFault}
-use Rattle.cli.proofs.run.tell_classified.Goals as goal
+use Rattle.cli.proofs.classifying.tell_classified.Goals as goal
 
 pub returns-in-Err : goal.returns-in-Err
 returns-in-Err g c =

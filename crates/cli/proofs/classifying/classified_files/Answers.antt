@@ -10,7 +10,7 @@ use Rattle.source_lines.specs.Sources.{source_state}
 use Rattle.receiving.specs.Files.{Store}
 use Rattle.cli.specs.Runs.{IsClassifyMade}
 use Rattle.session.specs.WrittenTexts.{Sinks}
-use Rattle.cli.proofs.run.classified_files.Goals as goal
+use Rattle.cli.proofs.classifying.classified_files.Goals as goal
 
 pub returns-in_default-clause-made : goal.returns-in_default-clause-made
 returns-in_default-clause-made g c =

@@ -1,6 +1,6 @@
 use Rattle.std.proofs.Common.{refl}
 use Rattle.telling.specs.Printing.{outputs}
-use Rattle.cli.proofs.run.perform_classify.Goals as goal
+use Rattle.cli.proofs.classifying.perform_classify.Goals as goal
 
 pub returns : goal.returns
 returns g c =
