@@ -1,5 +1,5 @@
 -- What files hold where a classification ended with a fault.
-use Rattle.std.proofs.Common.{◌≡◌, ℕ, List, Bool, Option, Result, Ok, Err, subst}
+use Rattle.std.proofs.Common.{ℕ, List, Bool, Option, Result, Ok, Err}
 use Rattle.std.specs.Io.KnownBytes.{Keeps}
 use Rattle.certificate.specs.declared.format.Format.{Format}
 use Rattle.command_line.specs.declared.tasks.Paths.{Paths}
@@ -13,11 +13,7 @@ use Rattle.cli.specs.declared.fault.ClassifyFault.{ClassifyFault}
 use Rattle.cli.specs.declared.fault.ClassifyFault.TheVariants.{Document, Memory, Limit, Io}
 use Rattle.classification.specs.declared.classification.Summary.{Summary}
 use Rattle.program.specs.declared.limits.Limits.{Limits}
-use Rattle.system_files.specs.Contents.{Content, IsClosed}
-
--- a sink that is closed is that of the path
-pub at_path : (old new : Content) (p q : List ℕ) (taken : Option (List ℕ)) → p ≡ q → IsClosed old new p taken → IsClosed old new q taken
-at_path old new p q taken same closed = let P : List ℕ → Type 0 = λ path. IsClosed old new path taken in subst P same closed
+use Rattle.system_files.specs.Contents.{Content}
 
 pub files_left : (paths : Paths) (format : Format) (limits : Limits) (known : Bool) (content content' : Content) (left : Option (List ℕ)) (old new : Sinks) (fault : ClassifyFault) → Keeps (content paths.document.now) left → AreNew known old → IsUnwritten limits.version format limits.max_bytes limits.max_facts left old new fault → AreSinksClosed paths new content content' → AreLeft paths format limits known content content' fault
 files_left paths format limits known content content' left old new (Document fault) kept fresh unwritten closed = λ path. nothing_stored known paths old new content content' fresh unwritten closed path

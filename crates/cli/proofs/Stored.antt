@@ -1,12 +1,17 @@
 -- What files hold once the sinks of the three texts are closed.
-use Rattle.std.proofs.Common.{◌≡◌, ◌∙◌, ℕ, zero, suc, List, [], Bool, true, false, Option, Some, refl, sym, ap}
+use Rattle.std.proofs.Common.{◌≡◌, ◌∙◌, ◌<◌, ℕ, zero, suc, List, [], Bool, true, false, Option, Some, refl, sym, ap, subst}
 use Rattle.std.specs.Str.{bytes_eq}
 use Rattle.std.proofs.lemmas.Slice.Eq.{bytes_eq-Decides}
+use Rattle.cli.proofs.Blamed.{AreCounted, AreWorking}
+use Rattle.cli.specs.FileSinks.{HasFresh, HaveNotFailed}
 use Rattle.command_line.specs.declared.tasks.Paths.{Paths}
+use Rattle.device.specs.Device.{HasFailed}
+use Rattle.device.specs.declared.device.Sink as sinks
 use Rattle.cli.specs.HeldTexts.{AreApart, AreOthersKept, HoldTexts, HoldTextsUntil}
 use Rattle.receiving.specs.HeldTexts.{Stays}
-use Rattle.session.specs.WrittenTexts.{AreWritten, AreWrittenUntil, Sinks, Texts}
-use Rattle.system_files.specs.Contents.{Content, HasTakenSome, IsClosed, nothing_taken}
+use Rattle.session.specs.WrittenTexts.{AreWritten, AreWrittenUntil, KeepPaths, Sinks, Texts, all_seen}
+use Rattle.system_files.specs.Contents.{AreKept, Content, HasTakenSome, IsClosed, nothing_taken}
+use Rattle.system_files.specs.declared.files.Files as files
 use Rattle.receiving.proofs.Stored.{IsSome, IsLeftBy, sink_holds, sink_begins, sink_stays}
 
 pub record AreSome (texts : Texts) : Type 0 where
@@ -110,3 +115,49 @@ nothing_stored true paths old new content content' fresh same closed path =
     ∙ untaken closed.first closed.second paths.instances.now new.instances.0 closed.instances_closed (ap (λ (s : Sinks). s.instances.0) same ∙ fresh.instances_is) path
     ∙ untaken closed.before closed.first paths.taxonomy.now new.taxonomy.0 closed.taxonomy_closed (ap (λ (s : Sinks). s.taxonomy.0) same ∙ fresh.taxonomy_is) path
     ∙ closed.same path
+
+-- ---- texts that a run wrote with sinks of its own
+
+-- a sink that is closed is that of the path
+at_path : (old new : Content) (p q : List ℕ) (taken : Option (List ℕ)) → p ≡ q → IsClosed old new p taken → IsClosed old new q taken
+at_path old new p q taken same closed = let P : List ℕ → Type 0 = λ path. IsClosed old new path taken in subst P same closed
+
+-- the sinks were new and had not failed, and were closed behind what was written: the files are left by them, and the writes that failed are
+-- counted
+pub record AreWrittenBy (old new : Sinks) (paths : Paths) (known : Bool) (content content' : Content) (failed_before failed_behind : ℕ) : Type 0 where
+  pub fresh : AreNew known old
+  pub working : AreWorking old
+  pub closed : AreSinksClosed paths new content content'
+  pub counted : AreCounted new failed_before failed_behind
+
+module _ {F In Out : Type 0} (G : files.Ghosts F In Out) (S : sinks.Ghosts Out) where
+  -- the sink is closed, and its failures are counted
+  abbrev pub Closes : (old new : F) → Out → Type 0
+  Closes old new sink =
+      IsClosed (G.content old) (G.content new) (S.path sink) (S.taken sink) × (S.failures sink ≡ 0 → G.failed_writes new ≡ G.failed_writes old)
+      × (0 < S.failures sink → HasFailed (G.failed_writes old) (G.failed_writes new))
+
+  -- they were made behind the first files, and closed one after the other
+  pub three_written : (paths : Paths) (first made one two last : F) (old new : Out × Out × Out) → HasFresh S (G.is_known first) paths (G.has_place made) old.0 old.1 old.2 → HaveNotFailed S old.0 old.1 old.2 → AreKept (G.content first) (G.content made) → G.failed_writes made ≡ G.failed_writes first → KeepPaths S S S old new → Closes made one new.0 → Closes one two new.1 → Closes two last new.2 → AreWrittenBy (all_seen S S S old) (all_seen S S S new) paths (G.is_known first) (G.content first) (G.content last) (G.failed_writes first) (G.failed_writes last)
+  three_written paths first made one two last old new fresh working kept unfailed same taxonomy instances certificate = record {
+    fresh = record { taxonomy_is = fresh.taxonomy_is.taken; instances_is = fresh.instances_is.taken; certificate_is = fresh.certificate_is.taken };
+    working = record { taxonomy = working.0; instances = working.1; certificate = working.2 };
+    closed = record {
+      before = G.content made;
+      first = G.content one;
+      second = G.content two;
+      same = kept;
+      taxonomy_closed = at_path _ _ _ _ _ (same.0 ∙ fresh.taxonomy_is.path_is) taxonomy.0;
+      instances_closed = at_path _ _ _ _ _ (same.1 ∙ fresh.instances_is.path_is) instances.0;
+      certificate_closed = at_path _ _ _ _ _ (same.2 ∙ fresh.certificate_is.path_is) certificate.0;
+    };
+    counted = record {
+      first = G.failed_writes made;
+      second = G.failed_writes one;
+      third = G.failed_writes two;
+      same = unfailed;
+      taxonomy = record { unfailed = taxonomy.1; failed = taxonomy.2 };
+      instances = record { unfailed = instances.1; failed = instances.2 };
+      certificate = record { unfailed = certificate.1; failed = certificate.2 };
+    };
+  }
