@@ -1,5 +1,5 @@
 -- How the members are found: by the facts, class by class.
-use Rattle.std.specs.Prelude.{◌≡◌, ◌↔◌, ◌<◌, ◌≤◌, ◌/◌, ◌%◌, ◌^◌, ℕ, List, [], ◌∷◌, ◌++◌, length, map, slice_get, Some}
+use Rattle.std.specs.Prelude.{◌≡◌, ◌↔◌, ◌<◌, ◌≤◌, ◌/◌, ◌%◌, ◌^◌, ℕ, Bool, true, List, [], ◌∷◌, ◌++◌, length, map, slice_get, Some}
 use Rattle.std.specs.List.{Contains}
 use Rattle.axioms.specs.Ontology.{Ontology}
 use Rattle.axioms.specs.declared.ids.ExprId.{ExprId}
@@ -10,6 +10,7 @@ use Rattle.facts.specs.declared.contexts.Fact.{Fact}
 use Rattle.facts.specs.declared.contexts.Fact.TheVariants.{In}
 use Rattle.normal_forms.specs.declared.forms.Class2.TheVariants.{Expr}
 use Rattle.closure.specs.Denotations.{context_of}
+use Rattle.number_sets.specs.Members.{has}
 use Rattle.number_sets.specs.Pieces.{list_at}
 
 abbrev pub expr_id : ℕ → ExprId
@@ -18,6 +19,10 @@ expr_id e = record { 0 = e }
 -- a named class but owl:Thing and owl:Nothing
 abbrev pub IsOwnClass : Ontology → ℕ → Type 0
 IsOwnClass o e = (2 ≤ e) × IsNamedClass o e
+
+-- of each expression the row says whether it is one
+abbrev pub AreOwnClasses : Ontology → List Bool → Type 0
+AreOwnClasses o row = (e : ℕ) → (has row e ≡ true) ↔ IsOwnClass o e
 
 -- the fact puts the element into such a class
 abbrev pub IsMember : Ontology → List Context → Fact → ℕ → ℕ → Type 0

@@ -1,29 +1,24 @@
 //! Rows of classes.
+ghost use Rattle.axioms.specs.Ontology.{Ontology as Ontology2};
 ghost use Rattle.certificate.specs.View.{class_row_of};
 ghost use Rattle.exactness.specs.ListedInterpretation.{IsBefore};
 ghost use Rattle.countermodel.specs.FactsOf.{AreFactsOf};
 ghost use Rattle.countermodel.specs.Sinks.{Adds};
-ghost use Rattle.countermodel.specs.Members.{AreMembers, AreRowsOf, HasNoMember, IsMember, IsOwnClass};
+ghost use Rattle.countermodel.specs.Members.{AreMembers, AreOwnClasses, AreRowsOf, HasNoMember, IsMember};
 ghost use Rattle.countermodel.specs.MemberRows.{AreClassRows};
-ghost use Rattle.std.specs.Prelude.{◌↔◌, ◌≡◌, ◌≤◌, ◌^◌, AllPairs, IfOk, IsTrue, MatchOption, OnOk, length, map};
+ghost use Rattle.std.specs.Prelude.{◌≡◌, ◌≤◌, ◌^◌, AllPairs, IfOk, MatchOption, OnOk, length, map};
 
 use crate::ascending::ascending;
 use crate::elements::Elements;
+use crate::own_classes::{is_own_class, own_classes};
 use crate::sink::RowSink;
 use axioms::{ExprId, Memory, Ontology};
 use certificate::ClassRow;
 use engine::Closed;
 use facts::{Fact, StoredFact};
 use normal_forms::Class2;
-use number_sets::OpenLists;
+use number_sets::{OpenLists, Row};
 use std::alloc::Global;
-
-/// Whether the expression is a named class but `owl:Thing` and `owl:Nothing`.
-fn is_own_class(ontology: &Ontology, class: ExprId) -> bool
-    ensures { IsTrue result ↔ IsOwnClass ontology.now class.0 }
-{
-    class > ExprId::NOTHING && ontology.class_of(class).is_some()
-}
 
 /// The class, and the element that the fact puts into it, where it puts one into a named class but `owl:Thing` and `owl:Nothing`.
 pub(crate) fn member(
@@ -44,6 +39,21 @@ pub(crate) fn member(
     }
 }
 
+/// The same, where a bit for each expression tells whether it is such a class.
+fn member_by(own: &Row, elements: &Elements, fact: &StoredFact) -> Option<(ExprId, u32)>
+    ensures { (o : Ontology2) → AreOwnClasses o own.now → MatchOption result (HasNoMember o elements.now fact.now) (λ p. IsMember o elements.now fact.now p.0.0 p.1) }
+{
+    match fact.get() {
+        Fact::In(Class2::Expr(class), context) if own.contains(class.index()) => {
+            match elements.element(context) {
+                Some(element) => Some((class, element)),
+                None => None,
+            }
+        }
+        _ => None,
+    }
+}
+
 /// For each expression that is such a class the elements that the facts put into it.
 fn members(
     alloc: Global,
@@ -55,9 +65,10 @@ fn members(
     ensures members { IfOk result (λ lists. AreMembers ontology.now elements.now facts.now lists) }
     ensures length { IfOk result (λ lists. length lists ≡ length ontology.now.nodes) }
 {
+    let own = own_classes(alloc, ontology)?;
     let mut lists = OpenLists::new(alloc, ontology.expression_count())?;
     for fact in facts {
-        if let Some((class, element)) = member(ontology, elements, fact) {
+        if let Some((class, element)) = member_by(&own, elements, fact) {
             lists.push(class.index(), element)?;
         }
     }

@@ -1,4 +1,5 @@
 use Rattle.std.proofs.Common.{◌+◌, [], ◌∷◌, ◌++◌, replicate, ap, sym, ◌∙◌, subst}
+use Rattle.std.proofs.lemmas.Option.{MatchOption-at_none, MatchOption-at_some}
 use Rattle.std.specs.Prelude.{slice_set}
 use Rattle.number_sets.specs.Pieces.{list_at}
 use Rattle.countermodel.proofs.Members.{HasPut, none_put, nothing_put, one_put, all_put}
@@ -17,13 +18,14 @@ loop-fact-preserved c =
     let facts = c.args.facts.now in
     let k = c.loop-fact.fact-index in
     let lists = c.loop-fact.lists in
-    elim c.match-member.branch [
+    let told = c.member_by.ensures o c.in_ok-own.ensures in
+    elim c.match-member_by.branch [
       | in-Some+in_ok-push w ↦
           subst (HasPut o elements facts (k + 1)) (sym (w.lists-is ∙ (w.in_ok-push.ensures.ok ∙ ap (λ e. slice_set lists e (list_at lists e ++ w.in-Some.element ∷ [])) w.index.ensures)))
-          (one_put o elements facts k _ lists c.loop-fact-test.true c.loop-fact.invariant c.requires _ w.in-Some.element (rw c.fact-item.is at w.in-Some.ensures))
+          (one_put o elements facts k _ lists c.loop-fact-test.true c.loop-fact.invariant c.requires _ w.in-Some.element (rw c.fact-item.is at (MatchOption-at_some _ _ _ w.in-Some.is told)))
       | in_default w ↦
           subst (HasPut o elements facts (k + 1)) (sym w.lists-is)
-          (nothing_put o elements facts k _ lists c.loop-fact-test.true c.loop-fact.invariant (rw c.fact-item.is at w.in_default.ensures))
+          (nothing_put o elements facts k _ lists c.loop-fact-test.true c.loop-fact.invariant (rw c.fact-item.is at (MatchOption-at_none _ _ w.in_default.is told)))
     ]
 
 pub returns-clause-members : goal.returns-clause-members
