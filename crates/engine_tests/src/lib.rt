@@ -42,6 +42,8 @@ mod lists;
 #[cfg(test)]
 mod loops;
 #[cfg(test)]
+mod many_added;
+#[cfg(test)]
 mod numbered;
 #[cfg(test)]
 mod numbers;
