@@ -21,9 +21,6 @@ past f a zero k h = refl
 past f a (suc n) zero h = absurd (omega arith)
 past f a (suc n) (suc k) h = past f (a + 1) n k (omega arith)
 
-pub slice_get-table_past : {A : Type 0} (n : ℕ) (f : ℕ → A) (k : ℕ) → n ≤ k → slice_get (table n f) k ≡ None
-slice_get-table_past n f k h = past f 0 n k h
-
 pub length-table : {A : Type 0} (n : ℕ) (f : ℕ → A) → length (table n f) ≡ n
 length-table n f = length-map (range_with_len 0 n) f ∙ long 0 n
   where

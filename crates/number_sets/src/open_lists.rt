@@ -33,6 +33,19 @@ impl<T: Copy> OpenLists<T> {
         Ok(OpenLists { lists })
     }
 
+    /// An empty list for each of these numbers, with room for so many items, and for more where more are pushed. Fails where memory is
+    /// refused.
+    pub fn with_room(alloc: Global, room: &[u32]) -> Result<OpenLists<T>, AllocError>
+        ensures { IfOk result (λ l. l ≡ replicate (length room.now) []) }
+    {
+        let mut lists = Vec::with_capacity(alloc, room.len())?;
+        for items in room {
+            let list = Vec::with_capacity(alloc, *items as usize)?;
+            lists.push(list)?;
+        }
+        Ok(OpenLists { lists })
+    }
+
     /// How many lists there are.
     pub fn len(&self) -> usize
         ensures { result ≡ length self.now }

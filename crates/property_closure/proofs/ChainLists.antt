@@ -8,6 +8,7 @@ use Rattle.std.specs.declared.cmp.Ordering.TheVariants.{Less, Equal, Greater}
 use Rattle.std.proofs.lemmas.Bool.{cases_eq, cases_lt}
 use Rattle.std.proofs.lemmas.Cmp.{ranked}
 use Rattle.std.proofs.lemmas.List.{get_or_push, get_or_append_left, get_or_past, length_push, length-set}
+use Rattle.std.proofs.lemmas.List.Elements.{Contains-append_cases, Contains-append_left}
 use Rattle.axioms.specs.declared.ids.PropId.{PropId}
 use Rattle.normal_forms.specs.declared.forms.PropId2.{PropId2}
 use Rattle.normal_forms.specs.declared.forms.PropId2.TheVariants.{Property, Partial}
@@ -17,7 +18,7 @@ use Rattle.normal_forms.specs.Properties.{ComesBefore, ChainComesBefore, IsChain
 use Rattle.normal_forms.specs.contracts.forms.PropId2Ord.TheImpl as order
 use Rattle.number_sets.specs.Pieces.{list_at}
 use Rattle.property_closure.specs.declared.chains.OpenChains.{OpenChains}
-use Rattle.property_closure.specs.Chains.{AddsChain, AreChains, AreChainsOf, ArePacked, chains_at, open_chains_at}
+use Rattle.property_closure.specs.Chains.{AddsChain, AreChains, AreChainsOf, AreNoChains, ArePacked, chains_at, open_chains_at}
 use Rattle.property_closure.specs.Relations.{as_property}
 use Rattle.number_sets.proofs.Members.{one_more_item, one_more_taken, all_taken}
 use Rattle.property_closure.proofs.Reflexives.{number_of}
@@ -115,6 +116,27 @@ chains_of forms k o done each p c = (
   λ h. (each p c).1 ((all_taken forms k (N6 p c.0 c.1) done).1 h),
 )
 
+-- ---- forms that are of no chain
+
+pub no_chains_more : (forms : List Form) (k : ℕ) (d : Form) → k < length forms → ((p s t : PropId2) → get_or forms k d ≡ N6 p s t → ⊥) → AreNoChains (take k forms) → AreNoChains (take (k + 1) forms)
+no_chains_more forms k d low other before p c h = elim ((one_more_taken forms k d (N6 p c.0 c.1) low).0 h) [
+  | inl v ↦ before p c v
+  | inr e ↦ other p c.0 c.1 e
+]
+
+pub no_chains_of : (forms : List Form) (k : ℕ) → length forms ≤ k → AreNoChains (take k forms) → AreNoChains forms
+no_chains_of forms k done none p c h = none p c ((all_taken forms k (N6 p c.0 c.1) done).1 h)
+
+-- with such forms the chains are the same
+pub still_chains : (forms added : List Form) (p : PropId2) (list : List Chain) → AreNoChains added → AreChains forms p list → AreChains (forms ++ added) p list
+still_chains forms added p list none were = record {
+  ascending = were.ascending;
+  exact = λ c. (
+    λ h. Contains-append_left forms added (N6 p c.0 c.1) ((were.exact c).0 h),
+    λ h. (were.exact c).1 (elim (Contains-append_cases forms added (N6 p c.0 c.1) h) [ inl v ↦ v | inr v ↦ absurd (none p c v) ]),
+  );
+}
+
 -- ---- ascending lists
 
 pub packed_more : (lists packed : List (List Chain)) (n : ℕ) (list : List Chain) → ArePacked lists n packed → AllPairs ChainComesBefore list → ((c : Chain) → Contains list c ↔ Contains (list_at lists n) c) → ArePacked lists (n + 1) (packed ++ list ∷ [])
@@ -157,7 +179,7 @@ chains_closed forms o properties partials each w v (Partial n) = list_closed for
 abbrev pub order_of : PropId2 → PropId2 → Ordering
 order_of = order.ghosts.cmp
 
-less_before : (x y : PropId2) → order_of x y ≡ Less → ComesBefore x y
+pub less_before : (x y : PropId2) → order_of x y ≡ Less → ComesBefore x y
 less_before (Property p) (Property q) e = ranked p.0 q.0 Less (sym e)
 less_before (Property p) (Partial n) e = tt
 less_before (Partial m) (Property q) e = absurd (let f : Greater ≡ Less = e in cc)

@@ -1,7 +1,8 @@
 -- What a closure keeps of its forms, as they grow.
-use Rattle.std.proofs.Common.{◌≡◌, ◌↔◌, ℕ, ◌<◌, ◌≤◌, inl, inr, List, [], ◌∷◌, length, get_or, Contains, slice_get, Some, refl, sym, ap, ◌∙◌, subst, arith}
+use Rattle.std.proofs.Common.{◌≡◌, ◌↔◌, ℕ, ◌<◌, ◌≤◌, inl, inr, Bool, true, List, [], ◌∷◌, ◌++◌, length, get_or, Contains, slice_get, Some, refl, sym, ap, ap₂, ◌∙◌, subst, subst₂, arith}
 use Rattle.std.specs.List.{All, AllPairs}
 use Rattle.std.proofs.lemmas.Bool.{cases_lt}
+use Rattle.std.proofs.lemmas.List.{get_or_past}
 use Rattle.std.proofs.lemmas.List.Elements.{All-contains}
 use Rattle.lemmas.proofs.Members.{Contains-first, Contains-one}
 use Rattle.lemmas.proofs.Places.{slice_get_there}
@@ -9,11 +10,15 @@ use Rattle.normal_forms.specs.declared.forms.PropId2.{PropId2}
 use Rattle.normal_forms.specs.declared.forms.PropId2.TheVariants.{Property, Partial}
 use Rattle.normal_forms.specs.declared.forms.Form.{Form}
 use Rattle.normal_forms.specs.declared.forms.Form.TheVariants.{N5, N6, N7}
-use Rattle.normal_forms.specs.Properties.{ComesBefore, IsAtOrBelow, IsPropertyOf, IsPropertyFormOf, same, step}
+use Rattle.normal_forms.specs.Properties.{ComesBefore, IsAtOrBelow, IsPropertyOf, IsPropertyFormOf, IsReflexive, same, step}
+use Rattle.number_sets.specs.Members.{has}
+use Rattle.number_sets.specs.Pieces.{list_at}
+use Rattle.property_closure.specs.declared.chains.Chains.{Chains}
 use Rattle.property_closure.specs.declared.related.Related.{Related}
 use Rattle.property_closure.specs.Relations.{as_id, as_property, Tells, ArePlainWithin, AreReflexiveWithin}
-use Rattle.property_closure.specs.Chains.{AreChainsWithin}
-use Rattle.property_closure.specs.PropertyClosures.{IsRelated}
+use Rattle.property_closure.specs.Chains.{AreChains, AreChainsWithin, chains_at}
+use Rattle.property_closure.specs.Growth.{AreSupers, lists_of}
+use Rattle.property_closure.specs.PropertyClosures.{IsRelated, IsSame}
 use Rattle.property_closure.proofs.Reflexives.{number_of}
 
 -- ---- what forms name
@@ -43,13 +48,42 @@ all_wider n m n' m' forms a b all k d l = form_wider n m n' m' (get_or forms k d
 -- the lists serve more properties too
 pub related_wider : (n m n' m' : ℕ) (r : Related) → n ≤ n' → m ≤ m' → IsRelated n m r → IsRelated n' m' r
 related_wider n m n' m' r a b w = record {
-  within = all_wider n m n' m' r.forms.items a b w.within;
+  within = all_wider n m n' m' r.forms.value.items a b w.within;
   covered = omega (arith, w.covered);
-  plain = w.plain;
   supers = w.supers;
   reflexive = w.reflexive;
   chains = w.chains;
 }
+
+-- what says the same is what the forms say too
+pub related_same : (n m : ℕ) (old new : Related) → IsSame old new → IsRelated n m old → IsRelated n m new
+related_same n m old new is w =
+    let forms = sym is.forms in
+    let lists : lists_of old.supers ≡ lists_of new.supers = ap₂ (λ (base more : List (List PropId2)). base ++ more) (sym is.base) (sym is.more) in record {
+      within = subst (All (IsPropertyFormOf n m)) forms w.within;
+      covered = subst (λ (l : List (List PropId2)). length l ≤ n) lists w.covered;
+      supers = subst (λ (fs : List Form). AreSupers fs new.supers.base.value new.supers.more) forms (subst₂ (AreSupers old.forms.value.items) (sym is.base) (sym is.more) w.supers);
+      reflexive = λ p. subst₂ (λ (fs : List Form) (s : List Bool). (has s p ≡ true) ↔ IsReflexive fs (as_property p)) forms (sym is.reflexive) (w.reflexive p);
+      chains = λ p. subst₂ (λ (fs : List Form) (c : Chains). AreChains fs p (chains_at c p)) forms (sym is.chains) (w.chains p);
+    }
+
+-- ---- the list of a property
+
+-- an empty list is past the end
+pub empty_past : (forms : List Form) (base more : List (List PropId2)) (p : ℕ) (list : List PropId2) → AreSupers forms base more → list ≡ list_at (base ++ more) p → length list ≡ 0 → length (base ++ more) ≤ p
+empty_past forms base more p list w is none = elim (cases_lt p (length (base ++ more))) [
+  | inl l ↦
+      let itself : Contains list (as_property p) = subst (λ (xs : List PropId2). Contains xs (as_property p)) (sym is) (((w.each p l).exact (as_property p)).1 same) in
+      absurd (omega (arith, itself.1, none))
+  | inr l ↦ l
+]
+
+-- and another is not
+pub full_within : (base more : List (List PropId2)) (p : ℕ) (list : List PropId2) → list ≡ list_at (base ++ more) p → (length list ≡ 0 → ⊥) → p < length (base ++ more)
+full_within base more p list is some = elim (cases_lt p (length (base ++ more))) [
+  | inl l ↦ l
+  | inr l ↦ absurd (some (ap length (is ∙ get_or_past (base ++ more) p [] l)))
+]
 
 -- ---- what is above a property
 

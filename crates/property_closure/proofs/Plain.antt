@@ -31,7 +31,7 @@ super_of : Form → ℕ
 super_of (N5 r s) = s.0
 super_of _ = 0
 
-same_parts : (a b c d : PropId) → N5 a b ≡ N5 c d → (c.0 ≡ a.0) × (d.0 ≡ b.0)
+pub same_parts : (a b c d : PropId) → N5 a b ≡ N5 c d → (c.0 ≡ a.0) × (d.0 ≡ b.0)
 unfolding sub_of super_of
 same_parts a b c d e = (sym (ap sub_of e), sym (ap super_of e))
 

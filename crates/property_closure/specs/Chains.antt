@@ -18,6 +18,10 @@ pub record AreChains (forms : List Form) (p : PropId2) (list : List (PropId2 × 
 abbrev pub AreChainsWithin : ℕ → ℕ → List Form → Type 0
 AreChainsWithin properties partials forms = (p : PropId2) (c : PropId2 × PropId2) → IsChainFrom forms p c → IsPropertyOf properties partials p
 
+-- no form says that something begins a chain
+abbrev pub AreNoChains : List Form → Type 0
+AreNoChains forms = (p : PropId2) (c : PropId2 × PropId2) → IsChainFrom forms p c → ⊥
+
 abbrev pub open_chains_at : OpenChains → PropId2 → List (PropId2 × PropId2)
 open_chains_at o (Property p) = list_at o.properties p.0
 open_chains_at o (Partial n) = list_at o.partials n

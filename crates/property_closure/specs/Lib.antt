@@ -1,3 +1,4 @@
 pub mod Relations
 pub mod Chains
+pub mod Growth
 pub mod PropertyClosures

@@ -1,8 +1,8 @@
 //! The chains that each property begins.
 ghost use Rattle.normal_forms.specs.Properties.{ChainComesBefore, IsPropertyOf};
-ghost use Rattle.property_closure.specs.Chains.{AddsChain, AreChains, AreChainsOf, AreChainsWithin, ArePacked, chains_at};
+ghost use Rattle.property_closure.specs.Chains.{AddsChain, AreChains, AreChainsOf, AreChainsWithin, AreNoChains, ArePacked, chains_at};
 ghost use Rattle.std.specs.List.{AllPairs};
-ghost use Rattle.std.specs.Prelude.{◌↔◌, ◌≡◌, [], IfOk, OnOk, Contains, ◌<◌, length};
+ghost use Rattle.std.specs.Prelude.{◌↔◌, ◌≡◌, [], IfOk, IsTrue, OnOk, Contains, ◌<◌, length};
 
 use axioms::Memory;
 use normal_forms::{Form, PropId2};
@@ -104,6 +104,18 @@ fn open_chains(
         }
     }
     Ok(unsorted)
+}
+
+/// Whether no form is of a chain.
+pub(crate) fn are_no_chains(forms: &[Form]) -> bool
+    ensures { IsTrue result ↔ AreNoChains forms.now }
+{
+    for form in forms {
+        if let Form::N6(_, _, _) = form {
+            return false;
+        }
+    }
+    true
 }
 
 /// The chains that the forms say to begin with each property.

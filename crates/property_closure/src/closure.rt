@@ -5,6 +5,7 @@ ghost use Rattle.std.specs.List.{All, AllPairs};
 ghost use Rattle.std.specs.Prelude.{◌++◌, ◌<◌, ◌↔◌, ◌≡◌, ◌≤◌, ◌^◌, ◌∷◌, [], Contains, IfOk, IsTrue, OnErr, OnOk, Some, false, length, slice_get, vec_capacity};
 
 use crate::related::Related;
+use crate::super_lists::copied;
 use axioms::{Memory, PropId};
 use normal_forms::{FormList, PropId2};
 use std::alloc::Global;
@@ -106,6 +107,22 @@ impl PropertyClosure {
         })
     }
 
+    /// How many properties it has: at most as many as numbers of 32 bits count.
+    pub fn properties(&self) -> usize
+        ensures value { result ≡ self.now.properties }
+        ensures few { result ≤ 2 ^ 32 }
+    {
+        self.properties.len()
+    }
+
+    /// How many prefixes of chains it has: at most as many as numbers of 32 bits count.
+    pub fn partials(&self) -> usize
+        ensures value { result ≡ self.now.partials }
+        ensures few { result ≤ 2 ^ 32 }
+    {
+        self.partials.len()
+    }
+
     /// Closes again with more forms, and as many properties and prefixes of chains in all. Where no form is of properties,
     /// nothing is worked out again.
     ///
@@ -130,12 +147,27 @@ impl PropertyClosure {
         make_room(&mut self.partials, partials)?;
         let added = forms.property_forms()?;
         if !added.is_empty() {
-            let before = &self.related.forms;
-            self.related = Related::of(self.alloc, properties, partials, before, &added)?;
+            self.related = self.related.with(self.alloc, properties, partials, &added)?;
         }
         add_properties(&mut self.properties, properties);
         add_partials(&mut self.partials, partials);
         Ok(())
+    }
+
+    /// The same closure, with lists that do not change in the same memory.
+    ///
+    /// # Errors
+    ///
+    /// `Memory` where memory was refused.
+    pub fn copy(&self) -> Result<PropertyClosure, Memory>
+        ensures { IfOk result (λ c. c ≡ self.now) }
+    {
+        Ok(PropertyClosure {
+            alloc: self.alloc,
+            properties: copied(self.alloc, &self.properties)?,
+            partials: copied(self.alloc, &self.partials)?,
+            related: self.related.copy(self.alloc)?,
+        })
     }
 
     /// What its forms name is there. This runs nothing.
@@ -152,11 +184,11 @@ impl PropertyClosure {
     {
         match p {
             PropId2::Property(id) => {
-                let place = id.index();
-                if place < self.related.supers.len() {
-                    self.related.supers.at(place)
+                let list = self.related.supers.at(id.index());
+                if list.is_empty() {
+                    alone(&self.properties, id.index())
                 } else {
-                    alone(&self.properties, place)
+                    list
                 }
             }
             PropId2::Partial(number) => alone(&self.partials, number as usize),
@@ -169,7 +201,7 @@ impl PropertyClosure {
         ensures out { (Has self.now p → ⊥) → result ≡ false }
     {
         match p {
-            PropId2::Property(id) => self.related.reflexive.contains(id.index()),
+            PropId2::Property(id) => self.related.reflexive.as_ref().contains(id.index()),
             PropId2::Partial(_) => false,
         }
     }
@@ -181,7 +213,7 @@ impl PropertyClosure {
         ensures exact { (c : PropId2 × PropId2) → Contains result.now c ↔ IsChainFrom self.now.forms p c }
         ensures out { (Has self.now p → ⊥) → result.now ≡ [] }
     {
-        self.related.chains.from(p)
+        self.related.chains.as_ref().from(p)
     }
 }
 

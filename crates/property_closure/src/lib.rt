@@ -5,6 +5,8 @@ mod chains;
 mod closure;
 mod reflexive;
 mod related;
+mod shared_lists;
+mod super_lists;
 mod supers;
 
 pub use closure::{PropertyClosure, close};

@@ -1,13 +1,14 @@
 //! The reflexive properties.
 ghost use Rattle.number_sets.specs.Members.{has};
-ghost use Rattle.number_sets.specs.Pieces.{list_at};
-ghost use Rattle.property_closure.specs.Relations.{AreAbove, ArePlainWithin, AreReflexiveWithin, HasPut, as_property};
+ghost use Rattle.property_closure.specs.Growth.{AreSupers, lists_of};
+ghost use Rattle.property_closure.specs.Relations.{AreReflexiveWithin, HasPut, as_property};
 ghost use Rattle.normal_forms.specs.Properties.{IsReflexive};
-ghost use Rattle.std.specs.Prelude.{◌<◌, ◌↔◌, ◌≡◌, IfOk, length, true, ℕ};
+ghost use Rattle.std.specs.Prelude.{◌↔◌, ◌≡◌, IfOk, length, true, ℕ};
 
+use crate::super_lists::SuperLists;
 use axioms::Memory;
 use normal_forms::{Form, PropId2};
-use number_sets::{EpochSet, PackedLists};
+use number_sets::EpochSet;
 use std::alloc::Global;
 
 /// Puts the numbers of these properties into the set.
@@ -25,15 +26,16 @@ fn put_each(set: &mut EpochSet, properties: &[PropId2])
 /// The reflexive properties: those that a form says to be so, and those above them.
 pub(crate) fn reflexive_properties(
     alloc: Global,
-    supers: &PackedLists<PropId2>,
+    properties: usize,
+    supers: &SuperLists,
     forms: &[Form],
 ) -> Result<EpochSet, Memory>
-    requires supers { (p : ℕ) → p < length supers.now → AreAbove forms.now (as_property p) (list_at supers.now p) }
-    requires plain { ArePlainWithin (length supers.now) forms.now }
-    requires within { AreReflexiveWithin (length supers.now) forms.now }
+    requires covered { length (lists_of supers.now) ≡ properties }
+    requires supers { AreSupers forms.now supers.now.base.value supers.now.more }
+    requires within { AreReflexiveWithin properties forms.now }
     ensures { IfOk result (λ s. (p : ℕ) → (has s p ≡ true) ↔ IsReflexive forms.now (as_property p)) }
 {
-    let mut reflexive = EpochSet::new(alloc, supers.len())?;
+    let mut reflexive = EpochSet::new(alloc, properties)?;
     for form in forms {
         if let Form::N7(property) = form {
             put_each(&mut reflexive, supers.at(property.index()));

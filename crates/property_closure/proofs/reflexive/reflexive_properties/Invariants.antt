@@ -7,6 +7,6 @@ use Rattle.property_closure.proofs.reflexive.reflexive_properties.Given as goal
 
 abbrev pub invariant-loop-form : goal.invariant-loop-form
 invariant-loop-form l = record {
-  long : length l.reflexive ≡ length l.supers;
+  long : length l.reflexive ≡ l.properties;
   each : (p : ℕ) → (has l.reflexive p ≡ true) ↔ ((q : ℕ) × Contains (take l.form-index l.forms) (N7 (as_id q)) × IsAtOrBelow l.forms (as_property q) (as_property p));
 }

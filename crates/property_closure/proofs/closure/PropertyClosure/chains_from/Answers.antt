@@ -1,7 +1,9 @@
-use Rattle.std.proofs.Common.{List, Contains, ◌↔◌, sym, ◌∙◌, subst}
+use Rattle.std.proofs.Common.{List, Contains, ◌↔◌, sym, ap, ◌∙◌, subst}
 use Rattle.std.specs.List.{AllPairs}
 use Rattle.normal_forms.specs.Properties.{ChainComesBefore, IsChainFrom}
+use Rattle.property_closure.specs.Chains.{chains_at}
 use Rattle.property_closure.specs.PropertyClosures.{known_by}
+use Rattle.property_closure.specs.declared.chains.Chains.{Chains}
 use Rattle.property_closure.proofs.ChainLists.{Chain}
 use Rattle.property_closure.proofs.Keeping.{chains_within, none_there}
 use Rattle.property_closure.proofs.closure.PropertyClosure.chains_from.Goals as goal
@@ -11,7 +13,7 @@ returns c =
     let related = c.self.inside.related in
     let p = c.args.p in
     let w = c.self.invariant.related in
-    let is = c.from.ensures in
+    let is = c.from.ensures ∙ ap (λ (chains : Chains). chains_at chains p) c.as_ref.ensures in
     let known = known_by c.self.inside in
     rw (← c.self.view_is) (record {
       ascending = subst (AllPairs ChainComesBefore) (sym is) (w.chains p).ascending;

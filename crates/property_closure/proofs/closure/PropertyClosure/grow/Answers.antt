@@ -1,4 +1,4 @@
-use Rattle.std.proofs.Common.{◌≤◌, length, sym, ◌∙◌, subst, subst₂}
+use Rattle.std.proofs.Common.{◌≤◌, arith, length, sym, ◌∙◌, subst, subst₂}
 use Rattle.std.specs.List.{All}
 use Rattle.std.proofs.lemmas.List.Elements.{All-filter}
 use Rattle.normal_forms.specs.declared.forms.Form.{Form}
@@ -9,10 +9,10 @@ use Rattle.property_closure.proofs.Keeping.{related_wider}
 use Rattle.property_closure.proofs.closure.PropertyClosure.grow.Goals as goal
 use Rattle.property_closure.proofs.closure.PropertyClosure.grow.Goals.{then-not-is_empty+in_ok-self-inside, else-not-is_empty}
 
-pub of-requires-clause-added : goal.of-requires-clause-added
-of-requires-clause-added c =
+pub with-requires-clause-added : goal.with-requires-clause-added
+with-requires-clause-added c =
     let P : Form → Type 0 = IsPropertyFormOf c.args.properties c.args.partials in
-    subst (All P) (sym (c.deref-then-not-is_empty.ensures.value ∙ c.in_ok-added.ensures)) (All-filter is_property_form P c.args.forms.now c.requires.forms)
+    subst (All P) (sym (c.deref.ensures.value ∙ c.in_ok-added.ensures)) (All-filter is_property_form P c.args.forms.now c.requires.forms)
 
 pub add_properties-requires-clause-before : goal.add_properties-requires-clause-before
 add_properties-requires-clause-before c =
@@ -46,5 +46,7 @@ invariant_of-self-2 c =
     ] in record {
       properties = c.add_properties.ensures.properties;
       partials = c.add_partials.ensures.partials;
+      few_properties = omega (arith, c.requires.property_numbers, c.add_properties.ensures.length);
+      few_partials = omega (arith, c.requires.partial_numbers, c.add_partials.ensures.length);
       related = subst₂ (λ a b. IsRelated a b c.if-not-is_empty.self-inside.related) (sym c.add_properties.ensures.length) (sym c.add_partials.ensures.length) related;
     }
