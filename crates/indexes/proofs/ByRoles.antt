@@ -37,3 +37,35 @@ for_other P R Q one other so all two = record {
   linked_second = so by_linked_second one.linked_second other.linked_second all.linked_second two.linked_second;
   denied = so by_denied one.denied other.denied all.denied two.denied;
 }
+
+-- what follows of the two from what holds of them
+pub for_both : {S T : Type 0} (P Q : (Form → Option Key) → S → T → Type 0) (one : ByRole S) (other : ByRole T) → ((key : Form → Option Key) (s : S) (t : T) → P key s t → Q key s t) → ForEachTwo P one other → ForEachTwo Q one other
+for_both P Q one other so two = record {
+  kinds = so by_kind one.kinds other.kinds two.kinds;
+  alone = so by_alone one.alone other.alone two.alone;
+  first = so by_first one.first other.first two.first;
+  second = so by_second one.second other.second two.second;
+  fillers = so by_filler one.fillers other.fillers two.fillers;
+  chains = so by_chain one.chains other.chains two.chains;
+  ends = so by_end one.ends other.ends two.ends;
+  plain = so by_plain one.plain other.plain two.plain;
+  linked_first = so by_linked_first one.linked_first other.linked_first two.linked_first;
+  linked_second = so by_linked_second one.linked_second other.linked_second two.linked_second;
+  denied = so by_denied one.denied other.denied two.denied;
+}
+
+-- .. and of the second of them
+pub for_second : {S T : Type 0} (P : (Form → Option Key) → S → T → Type 0) (Q : (Form → Option Key) → T → Type 0) (one : ByRole S) (other : ByRole T) → ((key : Form → Option Key) (s : S) (t : T) → P key s t → Q key t) → ForEachTwo P one other → ForEach Q other
+for_second P Q one other so two = record {
+  kinds = so by_kind one.kinds other.kinds two.kinds;
+  alone = so by_alone one.alone other.alone two.alone;
+  first = so by_first one.first other.first two.first;
+  second = so by_second one.second other.second two.second;
+  fillers = so by_filler one.fillers other.fillers two.fillers;
+  chains = so by_chain one.chains other.chains two.chains;
+  ends = so by_end one.ends other.ends two.ends;
+  plain = so by_plain one.plain other.plain two.plain;
+  linked_first = so by_linked_first one.linked_first other.linked_first two.linked_first;
+  linked_second = so by_linked_second one.linked_second other.linked_second two.linked_second;
+  denied = so by_denied one.denied other.denied two.denied;
+}

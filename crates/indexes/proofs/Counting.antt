@@ -34,24 +34,17 @@ that_key k (Some j) e = ⊎_elim (λ w. ap Some (sym w.0)) (λ w. absurd (true�
 is_that_key : (k : Key) (o : Option Key) → o ≡ Some k → is_key k o ≡ true
 is_that_key k o e = subst (λ (p : Option Key). is_key k p ≡ true) (sym e) (⊎_elim (λ w. w.1) (λ w. absurd (w.0 refl)) (which_key k k))
 
+pub same_is_key : (k j : Key) → k ≡ j → is_key k (Some j) ≡ true
+same_is_key k j e = is_that_key k (Some j) (ap Some (sym e))
+
 pub other_key : (k j : Key) → (k ≡ j → ⊥) → is_key k (Some j) ≡ false
 other_key k j ne = ⊎_elim (λ w. absurd (ne w.0)) (λ w. w.1) (which_key k j)
 
 -- ---- the numbers of what has a key
 
-short_one : (b : Bool) (n : ℕ) → length (cond b (n ∷ []) []) ≤ 1
-short_one true n = omega arith
-short_one false n = omega arith
-
 module _ {X : Type 0} (key : X → Option Key) (there : ℕ → Option X) where
   pub numbers_more : (k : Key) (i : ℕ) (x : X) → there i ≡ Some x → numbers_under key there k (i + 1) ≡ numbers_under key there k i ++ cond (is_key k (key x)) (i ∷ []) []
   numbers_more k i x at = ap (numbers_under key there k) (add-one i) ∙ ap (λ (o : Option X). numbers_under key there k i ++ cond (is_key k (option_and_then key o)) (i ∷ []) []) at
-
-  pub numbers_few : (k : Key) (n : ℕ) → length (numbers_under key there k n) ≤ n
-  numbers_few k zero = omega arith
-  numbers_few k (suc n) =
-      let b = is_key k (option_and_then key (there n)) in
-      omega (arith, length-append (numbers_under key there k n) (cond b (n ∷ []) []), short_one b n, numbers_few k n)
 
   numbers_grow : (k : Key) (i n : ℕ) → i ≤ n → length (numbers_under key there k i) ≤ length (numbers_under key there k n)
   numbers_grow k i zero le = let e : i ≡ 0 = omega (arith, le) in rw e (omega arith)

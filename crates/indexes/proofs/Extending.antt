@@ -1,30 +1,31 @@
 -- Lists of forms by key that get one form more.
-use Rattle.std.proofs.Common.{◌≡◌, ◌↔◌, ◌⊎◌, inl, inr, ℕ, ◌+◌, ◌<◌, ◌≤◌, List, [], ◌∷◌, ◌++◌, length, get_or, slice_get, take, Option, Some, None, Contains, refl, sym, ap, subst, ◌∙◌, arith}
+use Rattle.std.proofs.Common.{◌≡◌, ◌↔◌, ◌⊎◌, inl, inr, ℕ, ◌+◌, ◌<◌, ◌≤◌, List, [], ◌∷◌, ◌++◌, length, get_or, slice_get, take, Option, Some, None, Contains, refl, sym, ap, ap₂, subst, ◌∙◌, arith}
 use Rattle.std.proofs.lemmas.List.{get_or_default, length-take-le, take_all}
 use Rattle.std.proofs.lemmas.List.Sorted.{IsNonDecreasingBy-insert}
 use Rattle.std.proofs.lemmas.Option.{none-some, same_Some, slice_get_within}
 use Rattle.std.specs.List.{insert}
-use Rattle.std.specs.List.Sorted.{IsNonDecreasing, IsNonDecreasingBy}
-use Rattle.lemmas.proofs.Members.{Contains-none}
-use Rattle.lemmas.proofs.Places.{keeps_push, slice_get_push, slice_get_push_cases, slice_get_take, take_push, take_slice_get}
+use Rattle.std.specs.List.Sorted.{IsNonDecreasing}
+use Rattle.lemmas.proofs.Places.{keeps_push, slice_get_push, slice_get_push_cases, slice_get_take, take_push}
 use Rattle.normal_forms.specs.declared.forms.Form.{Form}
 use Rattle.indexes.specs.declared.keys.Key.{Key}
-use Rattle.indexes.specs.declared.key_lists.KeyLists.{KeyLists}
+use Rattle.indexes.specs.declared.form_lists.FormLists.{FormLists}
 use Rattle.indexes.specs.declared.roles.ByRole.{ByRole}
-use Rattle.indexes.specs.FormIndex.{at_key, AreInOrder, Ascend, IsFormIndex, ListsNumbers}
+use Rattle.indexes.specs.FormIndex.{at_key, listed_at, AreInOrder, Ascend, IsFormIndex, ListsNumbers}
 use Rattle.indexes.specs.FormsUnderKeys.{HasKeyAt}
-use Rattle.indexes.specs.Insertions.{AddsForm, AddsInOrder, AddsLast, AreOrdered, PutsUnder}
+use Rattle.indexes.specs.Insertions.{AddsForm, AddsInOrder, AddsLast, AreOrdered, IsCopyOf, PutsUnder}
+use Rattle.indexes.specs.ChangedLists.{changed_at, changed_or}
+use Rattle.indexes.specs.declared.key_lists.KeyLists.{KeyLists}
 use Rattle.indexes.specs.Keys.{by_kind, by_alone, by_first, by_second, by_filler, by_chain, by_end, by_plain, by_linked_first, by_linked_second, by_denied}
 use Rattle.indexes.specs.Roles.{ForEach, ForEachTwo}
 use Rattle.indexes.specs.Seconds.{form_rank, rank_at, IsInOrder}
-use Rattle.indexes.proofs.ByRoles.{for_other}
+use Rattle.indexes.proofs.ByRoles.{for_both, for_other}
 use Rattle.indexes.proofs.Putting.{each_list, put_cases, put_itself, put_there, same_key}
 
 -- the first so many of the forms are listed, those that have an order in the order of all
-pub record AreIndexedTo (forms : List Form) (many : ℕ) (index : ByRole KeyLists) : Type 0 where
-  pub listed : ForEach (λ key lists. ListsNumbers key (slice_get (take many forms)) lists) index
-  pub first_ascends : Ascend index.first
-  pub second_ascends : Ascend index.second
+pub record AreIndexedTo (forms : List Form) (many : ℕ) (index : ByRole FormLists) : Type 0 where
+  pub listed : ForEach (λ key lists. ListsNumbers key (slice_get (take many forms)) (listed_at lists)) index
+  pub first_ascends : Ascend (listed_at index.first)
+  pub second_ascends : Ascend (listed_at index.second)
   pub ordered : AreOrdered forms index
 
 -- ---- one form more
@@ -53,68 +54,68 @@ module _ (key : Form → Option Key) (forms : List Form) (n : ℕ) (form : Form)
   kept k m w = (w.0, keeps_push first form m w.0 w.1, w.2)
 
   -- lists to which nothing is added where the form has no key
-  pub listed_still : (lists : KeyLists) → key form ≡ None → ListsNumbers key (slice_get first) lists → ListsNumbers key (slice_get (take (n + 1) forms)) lists
-  listed_still lists none listed = subst (λ (all : List Form). ListsNumbers key (slice_get all) lists) (sym (take_push forms n form at)) (λ k m. (
+  pub listed_still : (lists : FormLists) → key form ≡ None → ListsNumbers key (slice_get first) (listed_at lists) → ListsNumbers key (slice_get (take (n + 1) forms)) (listed_at lists)
+  listed_still lists none listed = subst (λ (all : List Form). ListsNumbers key (slice_get all) (listed_at lists)) (sym (take_push forms n form at)) (λ k m. (
     λ c. kept k m ((listed k m).0 c),
     λ w. elim (had k m w) [ inl there ↦ (listed k m).1 there | inr new ↦ absurd (none-some k (sym none ∙ new.1)) ],
   ))
 
-  module _ (old new : KeyLists) (mine : Key) (many : ℕ) (has : key form ≡ Some mine) (puts : PutsUnder old new mine many n) (listed : ListsNumbers key (slice_get first) old) where
-    from_list : (k : Key) (m : ℕ) → Contains (at_key new k) m → HasKeyAt key (slice_get more) k m
+  module _ (old new : FormLists) (mine : Key) (many : ℕ) (has : key form ≡ Some mine) (puts : PutsUnder old new mine many n) (listed : ListsNumbers key (slice_get first) (listed_at old)) where
+    from_list : (k : Key) (m : ℕ) → Contains (listed_at new k) m → HasKeyAt key (slice_get more) k m
     from_list k m c = elim (same_key k mine) [
       | inr ne ↦ kept k m ((listed k m).0 (subst (λ (list : List ℕ). Contains list m) (puts.elsewhere k ne) c))
-      | inl e ↦ elim (put_cases (at_key old mine) many n m (subst (λ (list : List ℕ). Contains list m) (ap (at_key new) e ∙ puts.here) c)) [
-        | inl there ↦ kept k m ((listed k m).0 (subst (λ (j : Key). Contains (at_key old j) m) (sym e) there))
+      | inl e ↦ elim (put_cases (listed_at old mine) many n m (subst (λ (list : List ℕ). Contains list m) (ap (listed_at new) e ∙ puts.here) c)) [
+        | inl there ↦ kept k m ((listed k m).0 (subst (λ (j : Key). Contains (listed_at old j) m) (sym e) there))
         | inr is ↦ (form, ap (slice_get more) (sym is) ∙ next, has ∙ ap Some (sym e))
       ]
     ]
 
-    to_list : (k : Key) (m : ℕ) → HasKeyAt key (slice_get more) k m → Contains (at_key new k) m
+    to_list : (k : Key) (m : ℕ) → HasKeyAt key (slice_get more) k m → Contains (listed_at new k) m
     to_list k m w = elim (had k m w) [
       | inl there ↦ elim (same_key k mine) [
         | inr ne ↦ subst (λ (list : List ℕ). Contains list m) (sym (puts.elsewhere k ne)) ((listed k m).1 there)
-        | inl e ↦ subst (λ (list : List ℕ). Contains list m) (sym (ap (at_key new) e ∙ puts.here)) (put_there (at_key old mine) many n m (subst (λ (j : Key). Contains (at_key old j) m) e ((listed k m).1 there)))
+        | inl e ↦ subst (λ (list : List ℕ). Contains list m) (sym (ap (listed_at new) e ∙ puts.here)) (put_there (listed_at old mine) many n m (subst (λ (j : Key). Contains (listed_at old j) m) e ((listed k m).1 there)))
       ]
       | inr is ↦
           (let e : k ≡ mine = same_Some k mine (sym is.1 ∙ has) in
-          subst (λ (list : List ℕ). Contains list m) (sym (ap (at_key new) e ∙ puts.here)) (subst (λ (j : ℕ). Contains (insert (at_key old mine) many n) j) (sym is.0) (put_itself (at_key old mine) many n)))
+          subst (λ (list : List ℕ). Contains list m) (sym (ap (listed_at new) e ∙ puts.here)) (subst (λ (j : ℕ). Contains (insert (listed_at old mine) many n) j) (sym is.0) (put_itself (listed_at old mine) many n)))
     ]
 
-    pub listed_more : ListsNumbers key (slice_get (take (n + 1) forms)) new
-    listed_more = subst (λ (all : List Form). ListsNumbers key (slice_get all) new) (sym (take_push forms n form at)) (λ k m. (from_list k m, to_list k m))
+    pub listed_more : ListsNumbers key (slice_get (take (n + 1) forms)) (listed_at new)
+    listed_more = subst (λ (all : List Form). ListsNumbers key (slice_get all) (listed_at new)) (sym (take_push forms n form at)) (λ k m. (from_list k m, to_list k m))
 
     -- each of the numbers that are listed is less
-    less : (k : Key) (m : ℕ) → Contains (at_key old k) m → m < n
+    less : (k : Key) (m : ℕ) → Contains (listed_at old k) m → m < n
     less k m c = let w = (listed k m).0 c in omega (arith, slice_get_within first m w.0 w.1, long)
 
     -- at the end of its list the number stands in order
-    pub ascends_more : many ≡ length (at_key old mine) → ((k : Key) → IsNonDecreasing (at_key old k)) → (k : Key) → IsNonDecreasing (at_key new k)
+    pub ascends_more : many ≡ length (listed_at old mine) → ((k : Key) → IsNonDecreasing (listed_at old k)) → (k : Key) → IsNonDecreasing (listed_at new k)
     ascends_more last ascend =
-        let xs = at_key old mine in
+        let xs = listed_at old mine in
         each_list IsNonDecreasing old new mine many n puts
         (IsNonDecreasingBy-insert (λ x. x) xs many n (ascend mine) puts.within
         (λ i d low. let l = less mine (get_or xs i d) (i, omega (arith, low, last), get_or_default xs i (get_or xs i d) d (omega (arith, low, last))) in omega (arith, l))
         (λ i d high low. absurd (omega (arith, high, low, last))))
         ascend
 
-module _ (forms : List Form) (n : ℕ) (form : Form) (at : slice_get forms n ≡ Some form) (key : Form → Option Key) (old new : KeyLists) (listed : ListsNumbers key (slice_get (take n forms)) old) where
-  by_last : (k : Option Key) → key form ≡ k → AddsLast old new k n → ListsNumbers key (slice_get (take (n + 1) forms)) new
-  by_last None none same = subst (ListsNumbers key (slice_get (take (n + 1) forms))) (sym same) (listed_still key forms n form at old none listed)
-  by_last (Some k) has puts = listed_more key forms n form at old new k (length (at_key old k)) has puts listed
+module _ (forms : List Form) (n : ℕ) (form : Form) (at : slice_get forms n ≡ Some form) (key : Form → Option Key) (old new : FormLists) (listed : ListsNumbers key (slice_get (take n forms)) (listed_at old)) where
+  by_last : (k : Option Key) → key form ≡ k → AddsLast old new k n → ListsNumbers key (slice_get (take (n + 1) forms)) (listed_at new)
+  by_last None none same = subst (λ (l : FormLists). ListsNumbers key (slice_get (take (n + 1) forms)) (listed_at l)) (sym same) (listed_still key forms n form at old none listed)
+  by_last (Some k) has puts = listed_more key forms n form at old new k (length (listed_at old k)) has puts listed
 
-  by_order : (k : Option Key) → key form ≡ k → AddsInOrder forms old new k n → ListsNumbers key (slice_get (take (n + 1) forms)) new
-  by_order None none same = subst (ListsNumbers key (slice_get (take (n + 1) forms))) (sym same) (listed_still key forms n form at old none listed)
+  by_order : (k : Option Key) → key form ≡ k → AddsInOrder forms old new k n → ListsNumbers key (slice_get (take (n + 1) forms)) (listed_at new)
+  by_order None none same = subst (λ (l : FormLists). ListsNumbers key (slice_get (take (n + 1) forms)) (listed_at l)) (sym same) (listed_still key forms n form at old none listed)
   by_order (Some k) has puts = listed_more key forms n form at old new k puts.0.0 has puts.0.1 listed
 
-  ascending : (k : Option Key) → key form ≡ k → AddsLast old new k n → Ascend old → Ascend new
-  ascending None none same ascend = subst Ascend (sym same) ascend
-  ascending (Some k) has puts ascend = ascends_more key forms n form at old new k (length (at_key old k)) has puts listed refl ascend
+  ascending : (k : Option Key) → key form ≡ k → AddsLast old new k n → Ascend (listed_at old) → Ascend (listed_at new)
+  ascending None none same ascend = subst (λ (l : FormLists). Ascend (listed_at l)) (sym same) ascend
+  ascending (Some k) has puts ascend = ascends_more key forms n form at old new k (length (listed_at old k)) has puts listed refl ascend
 
-ordered : (forms : List Form) (old new : KeyLists) (k : Option Key) (n : ℕ) → AddsInOrder forms old new k n → AreInOrder forms old → AreInOrder forms new
-ordered forms old new None n same order = subst (AreInOrder forms) (sym same) order
+ordered : (forms : List Form) (old new : FormLists) (k : Option Key) (n : ℕ) → AddsInOrder forms old new k n → AreInOrder forms (listed_at old) → AreInOrder forms (listed_at new)
+ordered forms old new None n same order = subst (λ (l : FormLists). AreInOrder forms (listed_at l)) (sym same) order
 ordered forms old new (Some k) n puts order = puts.1
 
-pub one_more : (forms : List Form) (n : ℕ) (form : Form) (old new : ByRole KeyLists) → slice_get forms n ≡ Some form → AreIndexedTo forms n old → AddsForm forms old new form n → AreIndexedTo forms (n + 1) new
+pub one_more : (forms : List Form) (n : ℕ) (form : Form) (old new : ByRole FormLists) → slice_get forms n ≡ Some form → AreIndexedTo forms n old → AddsForm forms old new form n → AreIndexedTo forms (n + 1) new
 one_more forms n form old new at are adds = record {
   listed = record {
     kinds = by_last forms n form at by_kind old.kinds new.kinds are.listed.kinds (by_kind form) refl adds.kinds;
@@ -141,23 +142,27 @@ one_more forms n form old new at are adds = record {
 -- ---- where it begins, and where it ends
 
 -- the numbers of the first forms stand in the order of all
-whole_order : (key : Form → Option Key) (forms : List Form) (n : ℕ) (lists : KeyLists) → ListsNumbers key (slice_get (take n forms)) lists → AreInOrder (take n forms) lists → AreInOrder forms lists
+whole_order : (key : Form → Option Key) (forms : List Form) (n : ℕ) (lists : FormLists) → ListsNumbers key (slice_get (take n forms)) (listed_at lists) → AreInOrder (take n forms) (listed_at lists) → AreInOrder forms (listed_at lists)
 whole_order key forms n lists listed order k i j d le low =
-    let xs = at_key lists k in
+    let xs = listed_at lists k in
     let rank_is : (i : ℕ) → i < length xs → rank_at (take n forms) (get_or xs i d) ≡ rank_at forms (get_or xs i d) = λ i l.
     let w = (listed k (get_or xs i d)).0 (i, l, get_or_default xs i (get_or xs i d) d l) in
     ap form_rank (w.1 ∙ sym (slice_get_take n forms (get_or xs i d) w.0 w.1).1) in
     omega (arith, order k i j d le low, rank_is i (omega (arith, le, low)), rank_is j low)
 
 -- copies of the lists list the same
-copied : (key : Form → Option Key) (there : ℕ → Option Form) (old new : KeyLists) → ((k : Key) → at_key new k ≡ at_key old k) → ListsNumbers key there old → ListsNumbers key there new
+copied : (key : Form → Option Key) (there : ℕ → Option Form) (old new : FormLists) → ((k : Key) → listed_at new k ≡ listed_at old k) → ListsNumbers key there (listed_at old) → ListsNumbers key there (listed_at new)
 copied key there old new same listed k m = subst (λ (list : List ℕ). Contains list m ↔ HasKeyAt key there k m) (sym (same k)) (listed k m)
 
-pub at_first : (forms : List Form) (n : ℕ) (old new : ByRole KeyLists) → ForEachTwo (λ _ old new. (k : Key) → at_key new k ≡ at_key old k) old new → IsFormIndex (take n forms) old → AreIndexedTo forms n new
-at_first forms n old new same is =
-    let order : (key : Form → Option Key) (before after : KeyLists) → ((k : Key) → at_key after k ≡ at_key before k) → ListsNumbers key (slice_get (take n forms)) before → AreInOrder (take n forms) before → AreInOrder forms after = λ key before after s listed in_order k. subst (IsInOrder forms) (sym (s k)) (whole_order key forms n before listed in_order k) in
+same_lists : (old new : FormLists) → IsCopyOf old new → (k : Key) → listed_at new k ≡ listed_at old k
+same_lists old new copy k = ap₂ (λ (cs : List (Key × List ℕ)) (l : KeyLists). changed_or (changed_at cs k) (at_key l k)) copy.changed copy.shared
+
+pub at_first : (forms : List Form) (n : ℕ) (old new : ByRole FormLists) → ForEachTwo (λ _ old new. IsCopyOf old new) old new → IsFormIndex listed_at (take n forms) old → AreIndexedTo forms n new
+at_first forms n old new copies is =
+    let same : ForEachTwo (λ _ old new. (k : Key) → listed_at new k ≡ listed_at old k) old new = for_both (λ _ old new. IsCopyOf old new) (λ _ old new. (k : Key) → listed_at new k ≡ listed_at old k) old new (λ key before after copy. same_lists before after copy) copies in
+    let order : (key : Form → Option Key) (before after : FormLists) → ((k : Key) → listed_at after k ≡ listed_at before k) → ListsNumbers key (slice_get (take n forms)) (listed_at before) → AreInOrder (take n forms) (listed_at before) → AreInOrder forms (listed_at after) = λ key before after s listed in_order k. subst (IsInOrder forms) (sym (s k)) (whole_order key forms n before listed in_order k) in
     record {
-      listed = for_other (λ key lists. ListsNumbers key (slice_get (take n forms)) lists) (λ _ before after. (k : Key) → at_key after k ≡ at_key before k) (λ key lists. ListsNumbers key (slice_get (take n forms)) lists) old new
+      listed = for_other (λ key lists. ListsNumbers key (slice_get (take n forms)) (listed_at lists)) (λ _ before after. (k : Key) → listed_at after k ≡ listed_at before k) (λ key lists. ListsNumbers key (slice_get (take n forms)) (listed_at lists)) old new
           (λ key before after listed s. copied key (slice_get (take n forms)) before after s listed) is.listed same;
       first_ascends = λ k. subst IsNonDecreasing (sym (same.first k)) (is.first_ascends k);
       second_ascends = λ k. subst IsNonDecreasing (sym (same.second k)) (is.second_ascends k);
@@ -168,12 +173,44 @@ at_first forms n old new same is =
       };
     }
 
-pub at_last : (forms : List Form) (n : ℕ) (index : ByRole KeyLists) → length forms ≤ n → AreIndexedTo forms n index → IsFormIndex forms index
+pub at_last : (forms : List Form) (n : ℕ) (index : ByRole FormLists) → length forms ≤ n → AreIndexedTo forms n index → IsFormIndex listed_at forms index
 at_last forms n index past are = record {
-  listed = subst (λ (all : List Form). ForEach (λ key lists. ListsNumbers key (slice_get all) lists) index) (take_all n forms past) are.listed;
+  listed = subst (λ (all : List Form). ForEach (λ key lists. ListsNumbers key (slice_get all) (listed_at lists)) index) (take_all n forms past) are.listed;
   first_ascends = are.first_ascends;
   second_ascends = are.second_ascends;
   fillers_in_order = are.ordered.fillers;
   chains_in_order = are.ordered.chains;
   denied_in_order = are.ordered.denied;
+}
+
+-- ---- what stays shared
+
+-- the lists of the first forms are the same
+abbrev pub Share : ByRole FormLists → ByRole FormLists → Type 0
+Share old new = ForEachTwo (λ _ before after. after.shared.value ≡ before.shared.value) old new
+
+pub copies_share : (old new : ByRole FormLists) → ForEachTwo (λ _ old new. IsCopyOf old new) old new → Share old new
+copies_share old new copies = for_both (λ _ old new. IsCopyOf old new) (λ _ before after. after.shared.value ≡ before.shared.value) old new (λ key before after copy. copy.shared) copies
+
+last_shares : (old new : FormLists) (k : Option Key) (n : ℕ) → AddsLast old new k n → new.shared.value ≡ old.shared.value
+last_shares old new None n same = ap (λ (l : FormLists). l.shared.value) same
+last_shares old new (Some k) n puts = puts.shared
+
+order_shares : (forms : List Form) (old new : FormLists) (k : Option Key) (n : ℕ) → AddsInOrder forms old new k n → new.shared.value ≡ old.shared.value
+order_shares forms old new None n same = ap (λ (l : FormLists). l.shared.value) same
+order_shares forms old new (Some k) n puts = puts.0.1.shared
+
+pub still_share : (forms : List Form) (n : ℕ) (form : Form) (first old new : ByRole FormLists) → AddsForm forms old new form n → Share first old → Share first new
+still_share forms n form first old new adds share = record {
+  kinds = last_shares old.kinds new.kinds (by_kind form) n adds.kinds ∙ share.kinds;
+  alone = last_shares old.alone new.alone (by_alone form) n adds.alone ∙ share.alone;
+  first = last_shares old.first new.first (by_first form) n adds.first ∙ share.first;
+  second = last_shares old.second new.second (by_second form) n adds.second ∙ share.second;
+  fillers = order_shares forms old.fillers new.fillers (by_filler form) n adds.fillers ∙ share.fillers;
+  chains = order_shares forms old.chains new.chains (by_chain form) n adds.chains ∙ share.chains;
+  ends = last_shares old.ends new.ends (by_end form) n adds.ends ∙ share.ends;
+  plain = last_shares old.plain new.plain (by_plain form) n adds.plain ∙ share.plain;
+  linked_first = last_shares old.linked_first new.linked_first (by_linked_first form) n adds.linked_first ∙ share.linked_first;
+  linked_second = last_shares old.linked_second new.linked_second (by_linked_second form) n adds.linked_second ∙ share.linked_second;
+  denied = order_shares forms old.denied new.denied (by_denied form) n adds.denied ∙ share.denied;
 }

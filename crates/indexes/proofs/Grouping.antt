@@ -116,19 +116,6 @@ joins_by t u a b j = record {
   sound = λ forms sound there. j.sound forms sound (one_link (N10 a b) a b there (inl (refl, refl)));
 }
 
-pub joins_none : (t : List ℕ) (form : Form) → ((a b : IndId) → form ≡ N10 a b → ⊥) → LeadDown t → JoinsBy t t form
-joins_none t form none down = record {
-  long = refl;
-  down = down;
-  stays = λ x y h. h;
-  one = λ i j link. absurd (no_link form none i j link);
-  sound = λ forms sound there. sound;
-}
-  where
-    no_link : (form : Form) → ((a b : IndId) → form ≡ N10 a b → ⊥) → (i j : IndId) → Links form i j → ⊥
-    no_link (N10 a b) none i j link = none a b refl
-    no_link _ none i j link = link
-
 pub joined_more : (forms : List Form) (old after : List ℕ) (n : ℕ) (form : Form) → slice_get forms n ≡ Some form → JoinsBy old after form
     → ((k : ℕ) (g : Form) (i j : IndId) → k < n → slice_get forms k ≡ Some g → Links g i j → HaveOneRoot old i.0 j.0)
     → (k : ℕ) (g : Form) (i j : IndId) → k < n + 1 → slice_get forms k ≡ Some g → Links g i j → HaveOneRoot after i.0 j.0

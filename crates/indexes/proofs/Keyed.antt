@@ -3,11 +3,10 @@ use Rattle.std.proofs.Common.{◌≡◌, ◌↔◌, ℕ, List, slice_get, Option
 use Rattle.std.proofs.lemmas.Option.{none-some, same_Some}
 use Rattle.normal_forms.specs.declared.forms.Form.{Form}
 use Rattle.normal_forms.specs.declared.forms.Form.TheVariants.{N1, N2, N3, N4, N5, N6, N7, N8, N9, N10, N12}
-use Rattle.indexes.specs.declared.key_lists.KeyLists.{KeyLists}
 use Rattle.indexes.specs.declared.keys.Key.{Key}
 use Rattle.indexes.specs.declared.keys.Key.TheVariants.{Whole, Partial}
 use Rattle.indexes.specs.Keys.{individual_key, property_key, by_chain, by_denied, by_end, by_filler, by_restricted, by_target}
-use Rattle.indexes.specs.FormIndex.{at_key, ListsNumbers}
+use Rattle.indexes.specs.FormIndex.{ListsNumbers}
 use Rattle.indexes.specs.FormsUnderKeys.{IsUnder}
 use Rattle.indexes.specs.Seconds.{form_rank, rank, rank_at, second_key}
 
@@ -64,7 +63,7 @@ denied_agrees (N10 _ _) k l e = absurd (none-some k e)
 denied_agrees (N12 a r b) k l e = agree (individual_key b) l
 
 module _ (forms : List Form) (first second : Form → Option Key) (agrees : (form : Form) (k l : Key) → first form ≡ Some k → (rank (second_key form) ≡ rank l) ↔ (second form ≡ Some l))
-    (lists : KeyLists) (k l : Key) (list result : List ℕ) (is : list ≡ at_key lists k) (listed : ListsNumbers first (slice_get forms) lists)
+    (at : Key → List ℕ) (k l : Key) (list result : List ℕ) (is : list ≡ at k) (listed : ListsNumbers first (slice_get forms) at)
     (found : (n : ℕ) → Contains result n ↔ (Contains list n × (rank_at forms n ≡ rank l))) where
   -- those of the first key that have the second key are those of both
   both : (n : ℕ) → Contains result n ↔ (IsUnder first forms k n × IsUnder second forms l n)
@@ -80,14 +79,14 @@ module _ (forms : List Form) (first second : Form → Option Key) (agrees : (for
         (found n).1 (subst (λ (xs : List ℕ). Contains xs n) (sym is) ((listed k n).1 u), ap form_rank u.1 ∙ (agrees u.0 k l u.2).1 (ap second same ∙ v.2)),
   )
 
-pub restrictions_found : (forms : List Form) (lists : KeyLists) (k l : Key) (list result : List ℕ) → list ≡ at_key lists k → ListsNumbers by_filler (slice_get forms) lists
+pub restrictions_found : (forms : List Form) (at : Key → List ℕ) (k l : Key) (list result : List ℕ) → list ≡ at k → ListsNumbers by_filler (slice_get forms) at
     → ((n : ℕ) → Contains result n ↔ (Contains list n × (rank_at forms n ≡ rank l))) → (n : ℕ) → Contains result n ↔ (IsUnder by_filler forms k n × IsUnder by_restricted forms l n)
-restrictions_found forms lists = both forms by_filler by_restricted filler_agrees lists
+restrictions_found forms at = both forms by_filler by_restricted filler_agrees at
 
-pub chains_found : (forms : List Form) (lists : KeyLists) (k l : Key) (list result : List ℕ) → list ≡ at_key lists k → ListsNumbers by_chain (slice_get forms) lists
+pub chains_found : (forms : List Form) (at : Key → List ℕ) (k l : Key) (list result : List ℕ) → list ≡ at k → ListsNumbers by_chain (slice_get forms) at
     → ((n : ℕ) → Contains result n ↔ (Contains list n × (rank_at forms n ≡ rank l))) → (n : ℕ) → Contains result n ↔ (IsUnder by_chain forms k n × IsUnder by_end forms l n)
-chains_found forms lists = both forms by_chain by_end chain_agrees lists
+chains_found forms at = both forms by_chain by_end chain_agrees at
 
-pub denied_found : (forms : List Form) (lists : KeyLists) (k l : Key) (list result : List ℕ) → list ≡ at_key lists k → ListsNumbers by_denied (slice_get forms) lists
+pub denied_found : (forms : List Form) (at : Key → List ℕ) (k l : Key) (list result : List ℕ) → list ≡ at k → ListsNumbers by_denied (slice_get forms) at
     → ((n : ℕ) → Contains result n ↔ (Contains list n × (rank_at forms n ≡ rank l))) → (n : ℕ) → Contains result n ↔ (IsUnder by_denied forms k n × IsUnder by_target forms l n)
-denied_found forms lists = both forms by_denied by_target denied_agrees lists
+denied_found forms at = both forms by_denied by_target denied_agrees at

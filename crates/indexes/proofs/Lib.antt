@@ -15,8 +15,6 @@ pub mod Grouping
 pub mod Order
 pub mod Keyed
 pub mod Led
-pub mod Shifting
-pub mod Reaching
-pub mod Inserting
+pub mod Changing
 pub mod Putting
 pub mod Extending

@@ -150,9 +150,6 @@ module _ (t : List ℕ) (x y w : ℕ) (down : LeadDown t) (first : slice_get t x
   pub goes_on : (z : ℕ) → IsRootOf t x z → IsRootOf shorter w z
   goes_on z r = let q = onward second (onward first r) in shortens.roots w z q
 
-pub shortens_same : (t : List ℕ) → LeadDown t → Shortens t t
-shortens_same t down = record { long = refl; down = down; roots = λ x z r. r; sound = λ forms s. s }
-
 pub shortens_then : {a b c : List ℕ} → Shortens a b → Shortens b c → Shortens a c
 shortens_then p q = record {
   long = q.long ∙ p.long;

@@ -1,16 +1,10 @@
 -- Lists by number, as they grow.
 use Rattle.std.proofs.Common.{◌≡◌, ℕ, zero, suc, ◌+◌, ◌<◌, ◌≤◌, true, false, not, ne_eqb, eq-eqb, inl, inr, ⊎_elim, List, [], ◌∷◌, ◌++◌, length, get_or, set, Contains, refl, sym, ap, ◌∙◌, subst, arith}
 use Rattle.std.proofs.lemmas.Bool.{cases_eq}
-use Rattle.std.proofs.lemmas.List.{get_or_past, get_or_append_left, get_or-set_same, get_or-set_other, length_push}
+use Rattle.std.proofs.lemmas.List.{get_or_append_left, get_or-set_same, get_or-set_other}
 use Rattle.std.proofs.lemmas.List.Elements.{Contains-append_left, Contains-push, Contains-push_cases}
 use Rattle.std.proofs.Math.Seq.{get_or-append_seam}
 use Rattle.indexes.specs.Tables.{at, by_key, is_other, list_of, without, Adds, IsSame, IsTable, PutsLast, Removes}
-
-pub same_longer : (t : List (List ℕ)) → IsSame t (t ++ [] ∷ [])
-same_longer [] zero = refl
-same_longer [] (suc k) = refl
-same_longer (x ∷ t) zero = refl
-same_longer (x ∷ t) (suc k) = same_longer t k
 
 -- the list of a key, by what stands for it
 pub at_by_key : (numbers : List ℕ) (lists : List (List ℕ)) (key : ℕ) → at (by_key numbers lists) key ≡ list_of lists (get_or numbers key 0)
@@ -19,54 +13,12 @@ at_by_key [] lists (suc key) = refl
 at_by_key (n ∷ numbers) lists zero = refl
 at_by_key (n ∷ numbers) lists (suc key) = at_by_key numbers lists key
 
-pub by_key_push : (numbers : List ℕ) (lists : List (List ℕ)) → by_key (numbers ++ 0 ∷ []) lists ≡ by_key numbers lists ++ [] ∷ []
-by_key_push [] lists = refl
-by_key_push (n ∷ numbers) lists = ap (λ (rest : List (List ℕ)). list_of lists n ∷ rest) (by_key_push numbers lists)
-
 -- a key more for which nothing stands changes nothing for any key
 pub none_more : (numbers : List ℕ) (key : ℕ) → get_or (numbers ++ 0 ∷ []) key 0 ≡ get_or numbers key 0
 none_more [] zero = refl
 none_more [] (suc key) = refl
 none_more (n ∷ numbers) zero = refl
 none_more (n ∷ numbers) (suc key) = none_more numbers key
-
-pub table_empty : IsTable [] []
-table_empty = record {
-  within = λ key. omega (arith, get_or_past {X = ℕ} [] key 0 (omega arith));
-  apart = λ key other ne same. get_or_past {X = ℕ} [] key 0 (omega arith);
-}
-
-pub table_grown : (numbers : List ℕ) (lists : List (List ℕ)) → IsTable numbers lists → IsTable (numbers ++ 0 ∷ []) lists
-table_grown numbers lists table = record {
-  within = λ key. rw (none_more numbers key) (table.within key);
-  apart = λ key other ne same. none_more numbers key ∙ table.apart key other ne (sym (none_more numbers key) ∙ same ∙ none_more numbers other);
-}
-
--- a list for a key that had none
-pub table_begun : (numbers : List ℕ) (lists : List (List ℕ)) (key : ℕ) (new : List ℕ) → IsTable numbers lists → key < length numbers →
-    IsTable (set numbers key (length lists + 1)) (lists ++ new ∷ [])
-table_begun numbers lists key new table low = record {
-  within = λ k. elim (cases_eq k key) [
-    | inl e ↦ omega (arith, here, ap (λ i. get_or (set numbers key (length lists + 1)) i 0) e, length_push lists new)
-    | inr ne ↦ omega (arith, there k ne, table.within k, length_push lists new)
-  ];
-  apart = λ k other ne same. elim (cases_eq k key) [
-    | inl e ↦ elim (cases_eq other key) [
-      | inl f ↦ absurd (ne (e ∙ sym f))
-      | inr nf ↦ absurd (omega (arith, here, ap (λ i. get_or (set numbers key (length lists + 1)) i 0) e, there other nf, table.within other, same))
-    ]
-    | inr nk ↦ elim (cases_eq other key) [
-      | inl f ↦ absurd (omega (arith, here, ap (λ i. get_or (set numbers key (length lists + 1)) i 0) f, there k nk, table.within k, same))
-      | inr nf ↦ there k nk ∙ table.apart k other ne (sym (there k nk) ∙ same ∙ there other nf)
-    ]
-  ];
-}
-  where
-    here : get_or (set numbers key (length lists + 1)) key 0 ≡ length lists + 1
-    here = get_or-set_same numbers key (length lists + 1) 0 low
-
-    there : (k : ℕ) → (k ≡ key → ⊥) → get_or (set numbers key (length lists + 1)) k 0 ≡ get_or numbers k 0
-    there k ne = get_or-set_other numbers key k (length lists + 1) 0 ne
 
 -- the list that one more than its place stands for
 pub list_of_next : (lists : List (List ℕ)) (n place : ℕ) → n ≡ place + 1 → list_of lists n ≡ at lists place

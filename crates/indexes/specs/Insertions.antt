@@ -1,49 +1,49 @@
 -- Numbers that are put into lists.
-use Rattle.std.specs.Prelude.{◌≡◌, ℕ, ◌≤◌, List, length, Option, Some, None}
+use Rattle.std.specs.Prelude.{◌≡◌, ℕ, ◌≤◌, List, [], length, Option, Some, None}
 use Rattle.std.specs.List.{insert}
 use Rattle.normal_forms.specs.declared.forms.Form.{Form}
 use Rattle.indexes.specs.declared.keys.Key.{Key}
+use Rattle.indexes.specs.declared.form_lists.FormLists.{FormLists}
 use Rattle.indexes.specs.declared.key_lists.KeyLists.{KeyLists}
-use Rattle.indexes.specs.declared.lists.Lists.{Lists}
 use Rattle.indexes.specs.declared.roles.ByRole.{ByRole}
-use Rattle.indexes.specs.FormIndex.{at_key, AreInOrder}
+use Rattle.indexes.specs.FormIndex.{listed_at, AreInOrder}
 use Rattle.indexes.specs.Keys.{by_kind, by_alone, by_first, by_second, by_filler, by_chain, by_end, by_plain, by_linked_first, by_linked_second, by_denied}
-use Rattle.indexes.specs.Lists.{list_at}
 
--- the lists have the same numbers
-pub record AreTheSame (old new : Lists) : Type 0 where
-  pub starts : new.starts.items ≡ old.starts.items
-  pub numbers : new.numbers.items ≡ old.numbers.items
+-- those lists, none of which has changed
+pub record AreShared (lists : KeyLists) (shared : FormLists) : Type 0 where
+  pub same : shared.shared.value ≡ lists
+  pub whole : shared.changed.items ≡ []
+
+-- the lists are the same, those of the first forms in the same memory
+pub record IsCopyOf (old new : FormLists) : Type 0 where
+  pub shared : new.shared.value ≡ old.shared.value
+  pub changed : new.changed.items ≡ old.changed.items
 
 -- the number stands in the list of the key behind so many others, and the other lists are what they were
-pub record PutsIn (old new : Lists) (key many number : ℕ) : Type 0 where
-  pub here : list_at new.starts.items new.numbers.items key ≡ insert (list_at old.starts.items old.numbers.items key) many number
-  pub elsewhere : (k : ℕ) → (k ≡ key → ⊥) → list_at new.starts.items new.numbers.items k ≡ list_at old.starts.items old.numbers.items k
-
--- .. among lists of both kinds of keys
-pub record PutsUnder (old new : KeyLists) (key : Key) (many number : ℕ) : Type 0 where
-  pub within : many ≤ length (at_key old key)
-  pub here : at_key new key ≡ insert (at_key old key) many number
-  pub elsewhere : (k : Key) → (k ≡ key → ⊥) → at_key new k ≡ at_key old k
+pub record PutsUnder (old new : FormLists) (key : Key) (many number : ℕ) : Type 0 where
+  pub within : many ≤ length (listed_at old key)
+  pub here : listed_at new key ≡ insert (listed_at old key) many number
+  pub elsewhere : (k : Key) → (k ≡ key → ⊥) → listed_at new k ≡ listed_at old k
+  pub shared : new.shared.value ≡ old.shared.value
 
 -- the number is the last of the list of the key, if there is a key
-abbrev pub AddsLast : KeyLists → KeyLists → Option Key → ℕ → Type 0
+abbrev pub AddsLast : FormLists → FormLists → Option Key → ℕ → Type 0
 AddsLast old new None number = new ≡ old
-AddsLast old new (Some k) number = PutsUnder old new k (length (at_key old k)) number
+AddsLast old new (Some k) number = PutsUnder old new k (length (listed_at old k)) number
 
 -- it has its place in the order of the second keys of the forms there, if there is a key
-abbrev pub AddsInOrder : List Form → KeyLists → KeyLists → Option Key → ℕ → Type 0
+abbrev pub AddsInOrder : List Form → FormLists → FormLists → Option Key → ℕ → Type 0
 AddsInOrder forms old new None number = new ≡ old
-AddsInOrder forms old new (Some k) number = ((many : ℕ) × PutsUnder old new k many number) × AreInOrder forms new
+AddsInOrder forms old new (Some k) number = ((many : ℕ) × PutsUnder old new k many number) × AreInOrder forms (listed_at new)
 
 -- the lists that are found by a second key too are in its order
-pub record AreOrdered (forms : List Form) (index : ByRole KeyLists) : Type 0 where
-  pub fillers : AreInOrder forms index.fillers
-  pub chains : AreInOrder forms index.chains
-  pub denied : AreInOrder forms index.denied
+pub record AreOrdered (forms : List Form) (index : ByRole FormLists) : Type 0 where
+  pub fillers : AreInOrder forms (listed_at index.fillers)
+  pub chains : AreInOrder forms (listed_at index.chains)
+  pub denied : AreInOrder forms (listed_at index.denied)
 
 -- the number of a form is added to the list of each key that the form has
-pub record AddsForm (forms : List Form) (old new : ByRole KeyLists) (form : Form) (number : ℕ) : Type 0 where
+pub record AddsForm (forms : List Form) (old new : ByRole FormLists) (form : Form) (number : ℕ) : Type 0 where
   pub kinds : AddsLast old.kinds new.kinds (by_kind form) number
   pub alone : AddsLast old.alone new.alone (by_alone form) number
   pub first : AddsLast old.first new.first (by_first form) number

@@ -6,6 +6,7 @@ pub mod Keys
 pub mod Seconds
 pub mod Roles
 pub mod FormsUnderKeys
+pub mod ChangedLists
 pub mod Counts
 pub mod KeyFillings
 pub mod Lists

@@ -1,6 +1,6 @@
 -- Forms that stand in lists with what they lead to.
 use Rattle.std.specs.Prelude.{◌≡◌, ℕ, ◌↔◌, List, map, slice_get, if◌then◌else◌, Option, Some, None}
-use Rattle.std.specs.List.{Contains}
+use Rattle.std.specs.List.{AllZip, Contains}
 use Rattle.axioms.specs.declared.ids.PropId.{PropId}
 use Rattle.normal_forms.specs.declared.forms.Class2.{Class2}
 use Rattle.normal_forms.specs.declared.forms.Class2.TheVariants.{Expr}
@@ -12,6 +12,9 @@ use Rattle.indexes.specs.declared.keys.Key.{Key}
 use Rattle.indexes.specs.declared.keys.Key.TheVariants.{Whole, Partial}
 use Rattle.indexes.specs.declared.listed_forms.ListedForm.{ListedForm}
 use Rattle.indexes.specs.declared.listed_forms.ListedForms.{ListedForms}
+use Rattle.indexes.specs.declared.form_lists.FormLists.{FormLists}
+use Rattle.indexes.specs.declared.led_forms.LedForms.{LedForms}
+use Rattle.indexes.specs.ChangedLists.{changed_at, changed_or}
 use Rattle.indexes.specs.FormsUnderKeys.{IsUnder}
 use Rattle.indexes.specs.Lists.{list_at}
 
@@ -58,10 +61,18 @@ pub record AreListedForms (forms : List Form) (lists : KeyLists) (listed : Liste
   pub wholes : AreOf forms lists.wholes.numbers.items listed.wholes.items
   pub partials : AreOf forms lists.partials.numbers.items listed.partials.items
 
+-- .. of lists that have changed, key by key
+abbrev pub AreChangedForms : List Form → List (Key × List ℕ) → List (Key × List ListedForm) → Type 0
+AreChangedForms forms lists changed = AllZip (λ numbers listed. (listed.0 ≡ numbers.0) × AreOf forms numbers.1 listed.1) lists changed
+
 -- those of a key
 abbrev pub forms_at_key : KeyLists → ListedForms → Key → List ListedForm
 forms_at_key lists listed (Whole k) = list_at lists.wholes.starts.items listed.wholes.items k
 forms_at_key lists listed (Partial k) = list_at lists.partials.starts.items listed.partials.items k
+
+-- .. where copies share those of the keys that have not changed
+abbrev pub led_at : FormLists → LedForms → Key → List ListedForm
+led_at lists led k = changed_or (changed_at led.changed.items k) (forms_at_key lists.shared.value led.shared.value k)
 
 -- exactly the forms with a key are there, each with what it leads to
 pub record AreLedBy (key : Form → Option Key) (forms : List Form) (k : Key) (listed : List ListedForm) : Type 0 where

@@ -48,14 +48,3 @@ pub record IsFull (filling : Filling) : Type 0 where
   pub within : IsWithin filling.starts.items filling.numbers.items
   pub listed : AreAllListed filling.starts.items filling.numbers.items
   pub ascending : (key : ℕ) → IsNonDecreasing (list_at filling.starts.items filling.numbers.items key)
-
--- where it has a start it has two, between which a list stands; nothing else is taken out
-pub record IsBounded (old new : List ℕ) : Type 0 where
-  pub kept : 2 ≤ length old → new ≡ old
-  pub none : length old < 2 → new ≡ []
-
--- each start from that place on is greater by one, and those before it stay
-pub record Shifts (old new : List ℕ) (from : ℕ) : Type 0 where
-  pub long : length new ≡ length old
-  pub before : (k : ℕ) → k < from → slice_index new k ≡ slice_index old k
-  pub behind : (k : ℕ) → from ≤ k → k < length old → slice_index new k ≡ slice_index old k + 1

@@ -5,7 +5,7 @@ ghost use Rattle.indexes.specs.declared.disjoint.Operand.{Operand as Operand2};
 ghost use Rattle.indexes.specs.Counts.{AreCountsOf};
 ghost use Rattle.indexes.specs.declared.keys.Key.{Key as Key2};
 ghost use Rattle.indexes.specs.Disjoint.{operand_key, operands_from, operands_of_list, AreInLists, AreOfOneList, IsBeside, IsFirstOf, IsOf, IsPair, IsWith};
-ghost use Rattle.indexes.specs.FormIndex.{Ascend, ListsNumbers};
+ghost use Rattle.indexes.specs.FormIndex.{at_key, Ascend, ListsNumbers};
 
 use crate::key_counts::KeyCounts;
 use crate::key_lists::{KeyFilling, KeyLists};
@@ -112,8 +112,8 @@ fn places_counted(alloc: Global, operands: &[Operand]) -> Result<KeyCounts, Allo
 /// The places of each class. Fails where memory is refused.
 fn places_listed(alloc: Global, operands: &[Operand]) -> Result<KeyLists, AllocError>
     requires { length operands.now ≤ u32.MAX }
-    ensures listed { IfOk result (λ places. ListsNumbers operand_key (slice_get operands.now) places) }
-    ensures ascend { IfOk result (λ places. Ascend places) }
+    ensures listed { IfOk result (λ places. ListsNumbers operand_key (slice_get operands.now) (at_key places)) }
+    ensures ascend { IfOk result (λ places. Ascend (at_key places)) }
 {
     let counts = places_counted(alloc, operands)?;
     let mut filling = KeyFilling::new(alloc, &counts)?;
@@ -187,16 +187,6 @@ fn both_sides(operands: &[Operand], place: usize, most: usize) -> Option<Beside<
 }
 
 impl Disjointness {
-    /// No lists.
-    pub(crate) fn new(alloc: Global) -> Self
-        ensures { result ≡ [] }
-    {
-        Disjointness {
-            operands: Vec::new(alloc),
-            places: KeyLists::new(alloc),
-        }
-    }
-
     /// The operands of those lists. Fails where memory is refused, and where there are 2^32 lists or operands.
     pub(crate) fn of(alloc: Global, lists: &PackedLists<ExprId>) -> Result<Self, AllocError>
         ensures { IfOk result (λ disjoint. disjoint ≡ operands_from 0 lists.now) }

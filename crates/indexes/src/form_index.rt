@@ -1,11 +1,13 @@
 //! Lists of forms by key.
-ghost use Rattle.std.specs.Prelude.{◌≤◌, IfOk, [], length};
+ghost use Rattle.std.specs.Prelude.{◌≡◌, ◌≤◌, IfOk, [], length};
 ghost use Rattle.indexes.specs.Counts.{AreFew};
-ghost use Rattle.indexes.specs.FormIndex.{AreAllPutInOrder, IsFormIndex};
+ghost use Rattle.indexes.specs.FormIndex.{listed_at, AreAllPutInOrder, IsFormIndex};
+ghost use Rattle.indexes.specs.Insertions.{AreShared};
 ghost use Rattle.indexes.specs.KeyFillings.{AreFull, AreListsOf, HasPlaces, IsRoomUnder, PlacesForm};
 ghost use Rattle.indexes.specs.Roles.{ForEach, ForEachTwo};
 
 use crate::form_counts::counted;
+use crate::form_lists::FormLists;
 use crate::key_counts::KeyCounts;
 use crate::key_lists::{KeyFilling, KeyLists};
 use crate::keys::Key;
@@ -13,25 +15,6 @@ use crate::named::{key_of_class, key_of_property};
 use crate::roles::ByRole;
 use normal_forms::{Form, FormList};
 use std::alloc::{AllocError, Global};
-
-/// Lists nothing.
-pub(crate) fn nothing_listed(alloc: Global) -> ByRole<KeyLists>
-    ensures { IsFormIndex [] result }
-{
-    ByRole {
-        kinds: KeyLists::new(alloc),
-        alone: KeyLists::new(alloc),
-        first: KeyLists::new(alloc),
-        second: KeyLists::new(alloc),
-        fillers: KeyLists::new(alloc),
-        chains: KeyLists::new(alloc),
-        ends: KeyLists::new(alloc),
-        plain: KeyLists::new(alloc),
-        linked_first: KeyLists::new(alloc),
-        linked_second: KeyLists::new(alloc),
-        denied: KeyLists::new(alloc),
-    }
-}
 
 /// Room for so many numbers of each key. Fails where memory is refused.
 fn room_for(alloc: Global, counts: &ByRole<KeyCounts>) -> Result<ByRole<KeyFilling>, AllocError>
@@ -111,15 +94,35 @@ fn put_in_order(forms: &FormList, mut index: ByRole<KeyLists>) -> ByRole<KeyList
     index
 }
 
+/// These lists, so that copies may have them too. Fails where memory is refused.
+fn shared(alloc: Global, index: ByRole<KeyLists>) -> Result<ByRole<FormLists>, AllocError>
+    ensures { IfOk result (λ shared. ForEachTwo (λ _ lists shared. AreShared lists shared) index shared) }
+{
+    Ok(ByRole {
+        kinds: FormLists::new(alloc, index.kinds)?,
+        alone: FormLists::new(alloc, index.alone)?,
+        first: FormLists::new(alloc, index.first)?,
+        second: FormLists::new(alloc, index.second)?,
+        fillers: FormLists::new(alloc, index.fillers)?,
+        chains: FormLists::new(alloc, index.chains)?,
+        ends: FormLists::new(alloc, index.ends)?,
+        plain: FormLists::new(alloc, index.plain)?,
+        linked_first: FormLists::new(alloc, index.linked_first)?,
+        linked_second: FormLists::new(alloc, index.linked_second)?,
+        denied: FormLists::new(alloc, index.denied)?,
+    })
+}
+
 /// Lists all of the forms by each key that they have: it goes over them twice, and counts them first. Fails where memory is refused.
-pub(crate) fn listed(alloc: Global, forms: &FormList) -> Result<ByRole<KeyLists>, AllocError>
+pub(crate) fn listed(alloc: Global, forms: &FormList) -> Result<ByRole<FormLists>, AllocError>
     requires { length forms.now ≤ u32.MAX }
-    ensures { IfOk result (λ index. IsFormIndex forms.now index) }
+    ensures index { IfOk result (λ index. IsFormIndex listed_at forms.now index) }
+    ensures whole { IfOk result (λ index. ForEach (λ _ lists. lists.changed.items ≡ []) index) }
 {
     let counts = counted(alloc, forms)?;
     let mut filling = room_for(alloc, &counts)?;
     for number in 0..forms.len() {
         place(&mut filling, forms.at(number), number as u32);
     }
-    Ok(put_in_order(forms, filled(filling)))
+    shared(alloc, put_in_order(forms, filled(filling)))
 }

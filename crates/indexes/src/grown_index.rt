@@ -1,44 +1,39 @@
 //! Lists of forms by key, with further forms.
-ghost use Rattle.std.specs.Prelude.{◌≡◌, ◌≤◌, ℕ, IfOk, OnOk, length, take};
-ghost use Rattle.indexes.specs.FormIndex.{at_key, IsFormIndex};
-ghost use Rattle.indexes.specs.Insertions.{AddsForm, AreOrdered};
+ghost use Rattle.std.specs.Prelude.{◌≡◌, ◌≤◌, IfOk, OnOk, length, take};
+ghost use Rattle.indexes.specs.FormIndex.{listed_at, IsFormIndex};
+ghost use Rattle.indexes.specs.Insertions.{AddsForm, AreOrdered, IsCopyOf};
 ghost use Rattle.indexes.specs.Roles.{ForEachTwo};
-ghost use Rattle.indexes.specs.declared.keys.Key.{Key as Key2};
 
-use crate::key_lists::KeyLists;
+use crate::form_lists::FormLists;
 use crate::keys::Key;
 use crate::named::{key_of_class, key_of_property};
 use crate::roles::ByRole;
 use normal_forms::{Form, FormList};
 use std::alloc::{AllocError, Global};
 
-/// The same lists, with room for so many numbers more. Fails where memory is refused.
-fn copied(
-    alloc: Global,
-    index: &ByRole<KeyLists>,
-    more: usize,
-) -> Result<ByRole<KeyLists>, AllocError>
-    ensures { IfOk result (λ copy. ForEachTwo (λ _ old new. (k : Key2) → at_key new k ≡ at_key old k) index.now copy) }
+/// The same lists. Fails where memory is refused.
+fn copied(alloc: Global, index: &ByRole<FormLists>) -> Result<ByRole<FormLists>, AllocError>
+    ensures { IfOk result (λ copy. ForEachTwo (λ _ old new. IsCopyOf old new) index.now copy) }
 {
     Ok(ByRole {
-        kinds: index.kinds.copy(alloc, more)?,
-        alone: index.alone.copy(alloc, more)?,
-        first: index.first.copy(alloc, more)?,
-        second: index.second.copy(alloc, more)?,
-        fillers: index.fillers.copy(alloc, more)?,
-        chains: index.chains.copy(alloc, more)?,
-        ends: index.ends.copy(alloc, more)?,
-        plain: index.plain.copy(alloc, more)?,
-        linked_first: index.linked_first.copy(alloc, more)?,
-        linked_second: index.linked_second.copy(alloc, more)?,
-        denied: index.denied.copy(alloc, more)?,
+        kinds: index.kinds.copy(alloc)?,
+        alone: index.alone.copy(alloc)?,
+        first: index.first.copy(alloc)?,
+        second: index.second.copy(alloc)?,
+        fillers: index.fillers.copy(alloc)?,
+        chains: index.chains.copy(alloc)?,
+        ends: index.ends.copy(alloc)?,
+        plain: index.plain.copy(alloc)?,
+        linked_first: index.linked_first.copy(alloc)?,
+        linked_second: index.linked_second.copy(alloc)?,
+        denied: index.denied.copy(alloc)?,
     })
 }
 
 /// Adds the number of a form to the list of each key that the form has, at its end, or at its place in the order of a second key. Fails
 /// where memory is refused, or there are 2^32 - 1 numbers.
 fn add(
-    index: &mut ByRole<KeyLists>,
+    index: &mut ByRole<FormLists>,
     forms: &FormList,
     form: Form,
     number: u32,
@@ -70,20 +65,21 @@ fn add(
     }
 }
 
-/// Lists all of the forms by each key that they have, where the first so many are listed: it copies these lists, and goes over the others.
+/// Lists all of the forms by each key that they have, where the first so many are listed: it shares these lists, and goes over the others.
 /// Fails where memory is refused.
 pub(crate) fn listed_more(
     alloc: Global,
-    earlier: &ByRole<KeyLists>,
+    earlier: &ByRole<FormLists>,
     forms: &FormList,
     from: usize,
-) -> Result<ByRole<KeyLists>, AllocError>
+) -> Result<ByRole<FormLists>, AllocError>
     requires few { length forms.now ≤ u32.MAX }
     requires from { from ≤ length forms.now }
-    requires earlier { IsFormIndex (take from forms.now) earlier.now }
-    ensures { IfOk result (λ index. IsFormIndex forms.now index) }
+    requires earlier { IsFormIndex listed_at (take from forms.now) earlier.now }
+    ensures index { IfOk result (λ index. IsFormIndex listed_at forms.now index) }
+    ensures shared { IfOk result (λ index. ForEachTwo (λ _ old new. new.shared.value ≡ old.shared.value) earlier.now index) }
 {
-    let mut index = copied(alloc, earlier, forms.len() - from)?;
+    let mut index = copied(alloc, earlier)?;
     for number in from..forms.len() {
         add(&mut index, forms, forms.at(number), number as u32)?;
     }

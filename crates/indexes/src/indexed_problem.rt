@@ -6,7 +6,6 @@ ghost use Rattle.normal_forms.specs.declared.forms.Class2.TheVariants as classes
 ghost use Rattle.indexes.specs.declared.keys.Key.{Key as Key2};
 ghost use Rattle.indexes.specs.declared.keys.Key.TheVariants as keys;
 ghost use Rattle.indexes.specs.Keys.{class_key, property_key, individual_key, by_kind, by_alone, by_first, by_second, by_filler, by_chain, by_end, by_plain, by_linked_first, by_linked_second, by_denied, by_restricted, by_target};
-ghost use Rattle.normal_forms.specs.Apart.{no_lists};
 ghost use Rattle.facts.specs.Closure.{AreDisjointAt};
 ghost use Rattle.indexes.specs.Apart.{AreApart, IsApart, IsInList};
 ghost use Rattle.indexes.specs.FormsUnderKeys.{IsUnder};
@@ -14,11 +13,12 @@ ghost use Rattle.indexes.specs.ListedForms.{AreLedBy};
 
 use crate::apart::Apart;
 use crate::disjoint::Disjointness;
-use crate::form_index::{listed, nothing_listed};
+use crate::form_index::listed;
+use crate::form_lists::FormLists;
 use crate::grown_index::listed_more;
-use crate::key_lists::KeyLists;
 use crate::keys::Key;
-use crate::listed_forms::{ListedForm, ListedForms};
+use crate::led_forms::LedForms;
+use crate::listed_forms::ListedForm;
 use crate::lists::is_used;
 use crate::named::{key_of_class, key_of_property};
 use crate::overlap::common;
@@ -37,11 +37,11 @@ pub struct IndexedProblem {
     apart: ApartLists,
     roots: Vec<Context>,
     disjoint: Disjointness,
-    index: ByRole<KeyLists>,
+    index: ByRole<FormLists>,
     /// The forms that are listed by the class that they need alone.
-    alone: ListedForms,
+    alone: LedForms,
     /// The restrictions that are listed by their fillers.
-    fillers: ListedForms,
+    fillers: LedForms,
 }
 
 /// All intersections that have a class, by the numbers of their forms, and the classes that lists of disjoint classes put apart from it.
@@ -82,7 +82,7 @@ impl Model for IndexedProblem {
     ghost invariant = { λ p. IsIndexed p.forms p.apart.classes p.disjoint p.index p.alone p.fillers };
 }
 
-/// Up to how many new forms are put into the lists one by one, each of which moves what stands behind it. It decides nothing.
+/// Up to how many further forms there may be beside lists that copies share; then all are listed anew. It decides nothing.
 const FEW_FORMS: usize = 64;
 
 /// The contexts of the first list, and then those of the second.
@@ -96,26 +96,8 @@ fn joined(alloc: Global, first: &[Context], second: &[Context]) -> Result<Vec<Co
 }
 
 impl IndexedProblem {
-    /// No forms, no lists and no contexts.
-    pub fn empty(alloc: Global) -> Self
-        ensures forms { result.forms ≡ [] }
-        ensures apart { result.apart ≡ no_lists }
-        ensures roots { result.roots ≡ [] }
-    {
-        IndexedProblem {
-            alloc,
-            forms: FormList::new(alloc),
-            apart: ApartLists::new(alloc),
-            roots: Vec::new(alloc),
-            disjoint: Disjointness::new(alloc),
-            index: nothing_listed(alloc),
-            alone: ListedForms::new(alloc),
-            fillers: ListedForms::new(alloc),
-        }
-    }
-
     /// The problem of these forms, which begin with its own, and lists, with these contexts behind its own; the problem itself stays. The
-    /// memory of a list of forms that is shared already is shared. Fails where memory is refused, and where there are 2^32 forms, lists
+    /// memory of a list of forms that is shared already is shared, and so are, while few forms have been added, the lists by key. Fails where memory is refused, and where there are 2^32 forms, lists
     /// or members of lists.
     pub fn continued(
         &self,
@@ -132,15 +114,15 @@ impl IndexedProblem {
         let forms = forms.copy()?;
         let apart = apart.copy(self.alloc)?;
         let roots = joined(self.alloc, &self.roots, roots)?;
-        if forms.len().saturating_sub(from) > FEW_FORMS || forms.len() > u32::MAX as usize {
+        if forms.len().saturating_sub(self.alone.end) > FEW_FORMS
+            || forms.len() > u32::MAX as usize
+        {
             return IndexedProblem::new(self.alloc, forms, apart, roots);
         }
         let disjoint = Disjointness::of(self.alloc, &apart.classes)?;
         let index = listed_more(self.alloc, &self.index, &forms, from)?;
-        let alone = self.alone.again(self.alloc, &forms, &index.alone, from)?;
-        let fillers = self
-            .fillers
-            .again(self.alloc, &forms, &index.fillers, from)?;
+        let alone = self.alone.again(self.alloc, &forms, &index.alone)?;
+        let fillers = self.fillers.again(self.alloc, &forms, &index.fillers)?;
         Ok(IndexedProblem {
             alloc: self.alloc,
             forms,
@@ -170,8 +152,8 @@ impl IndexedProblem {
         }
         let disjoint = Disjointness::of(alloc, &apart.classes)?;
         let index = listed(alloc, &forms)?;
-        let alone = ListedForms::of(alloc, &forms, &index.alone)?;
-        let fillers = ListedForms::of(alloc, &forms, &index.fillers)?;
+        let alone = LedForms::of(alloc, &forms, &index.alone)?;
+        let fillers = LedForms::of(alloc, &forms, &index.fillers)?;
         Ok(IndexedProblem {
             alloc,
             forms,
@@ -239,7 +221,11 @@ impl IndexedProblem {
     pub fn led_alone(&self, class: Class2) -> &[ListedForm]
         ensures { AreLedBy by_alone self.now.forms (class_key class) result.now }
     {
-        self.alone.at(&self.index.alone, key_of_class(class))
+        let key = key_of_class(class);
+        if self.index.alone.is_past(key) {
+            return &[];
+        }
+        self.alone.at(&self.index.alone, key)
     }
 
     /// Whether an intersection has that first class.
@@ -320,7 +306,11 @@ impl IndexedProblem {
     pub fn led_by_filler(&self, class: Class2) -> &[ListedForm]
         ensures { AreLedBy by_filler self.now.forms (class_key class) result.now }
     {
-        self.fillers.at(&self.index.fillers, key_of_class(class))
+        let key = key_of_class(class);
+        if self.index.fillers.is_past(key) {
+            return &[];
+        }
+        self.fillers.at(&self.index.fillers, key)
     }
 
     /// The restrictions of that property that need that class at the target of an edge.
@@ -335,7 +325,7 @@ impl IndexedProblem {
     pub fn fillers_end(&self) -> usize
         ensures { (e : ExprId2) (n : ℕ) → IsUnder by_filler self.now.forms (class_key (classes.Expr e)) n → e.0 < result }
     {
-        self.index.fillers.wholes.end()
+        self.index.fillers.end()
     }
 
     /// The chains that begin with that property.

@@ -80,19 +80,9 @@ impl KeyFilling {
 }
 
 impl KeyLists {
-    /// No list has a number.
-    pub(crate) fn new(alloc: Global) -> Self
-        ensures { ListsNothing result }
-    {
-        KeyLists {
-            wholes: Lists::new(alloc),
-            partials: Lists::new(alloc),
-        }
-    }
-
     /// Whether no list has a number.
     pub(crate) fn is_empty(&self) -> bool
-        ensures { (result ≡ true) ↔ ListsNothing self.now }
+        ensures { (result ≡ true) ↔ ListsNothing (at_key self.now) }
     {
         self.wholes.is_empty() && self.partials.is_empty()
     }

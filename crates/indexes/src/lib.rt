@@ -4,16 +4,19 @@
 
 mod apart;
 mod by_context;
+mod changed_lists;
 mod disjoint;
 mod form_counts;
 mod form_index;
+mod form_listing;
+mod form_lists;
 mod grown_index;
 mod index;
 mod indexed_problem;
-mod insertions;
 mod key_counts;
 mod key_lists;
 mod keys;
+mod led_forms;
 mod listed_forms;
 mod lists;
 mod membership;

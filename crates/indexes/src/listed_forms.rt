@@ -1,6 +1,6 @@
 //! Forms as they stand in the lists of classes: with what they lead to.
-ghost use Rattle.std.specs.Prelude.{◌≡◌, IfOk, [], length, take};
-ghost use Rattle.indexes.specs.ListedForms.{forms_at_key, listed_class, listed_property, AreListedForms, AreOf, SaysItsForm, SayTheirForms};
+ghost use Rattle.std.specs.Prelude.{◌≡◌, IfOk, length};
+ghost use Rattle.indexes.specs.ListedForms.{forms_at_key, listed_class, listed_property, AreListedForms, AreOf, SaysItsForm};
 
 use crate::key_lists::KeyLists;
 use crate::keys::Key;
@@ -79,7 +79,7 @@ impl ListedForm {
 }
 
 /// The forms of these numbers. Fails where memory is refused.
-fn listed_forms(
+pub(crate) fn listed_forms(
     alloc: Global,
     forms: &FormList,
     numbers: &[u32],
@@ -91,60 +91,6 @@ fn listed_forms(
         listed.push(ListedForm::at(forms, *number))?;
     }
     Ok(listed)
-}
-
-/// Forms that stood in lists, from which those that stand there still are taken in their order.
-#[derive(Drop)]
-struct Earlier<'a> {
-    listed: &'a [ListedForm],
-    /// How many of them were taken.
-    taken: usize,
-    /// They say of forms with numbers below this one what these lead to.
-    end: usize,
-}
-
-/// The form of the number: where it is the next of the earlier ones, that one is taken.
-#[inline(always)]
-fn next_form(forms: &FormList, earlier: &mut Earlier<'_>, number: u32) -> ListedForm
-    requires { SayTheirForms (take earlier.old.end forms.now) earlier.old.listed.now }
-    ensures number { result.number ≡ number }
-    ensures says { SaysItsForm forms.now result }
-    ensures listed { earlier.new.listed ≡ earlier.old.listed }
-    ensures end { earlier.new.end ≡ earlier.old.end }
-{
-    let place = earlier.taken;
-    if place < earlier.listed.len()
-        && earlier.listed[place].number == number
-        && (number as usize) < earlier.end
-    {
-        earlier.taken = place + 1;
-        return earlier.listed[place];
-    }
-    ListedForm::at(forms, number)
-}
-
-/// The forms of these numbers, of which some stand among earlier ones in the same order. Fails where memory is refused.
-fn listed_again(
-    alloc: Global,
-    forms: &FormList,
-    numbers: &[u32],
-    listed: &[ListedForm],
-    end: usize,
-) -> Result<Vec<ListedForm>, AllocError>
-    requires { SayTheirForms (take end forms.now) listed.now }
-    ensures { IfOk result (λ all. AreOf forms.now numbers.now all.items) }
-{
-    let mut earlier = Earlier {
-        listed,
-        taken: 0,
-        end,
-    };
-    let mut all = Vec::with_capacity(alloc, numbers.len())?;
-    for number in numbers {
-        let form = next_form(forms, &mut earlier, *number);
-        all.push(form)?;
-    }
-    Ok(all)
 }
 
 /// For each number of lists of both kinds of keys its form.
@@ -164,17 +110,6 @@ impl Drop for ListedForms {
 }
 
 impl ListedForms {
-    /// None.
-    pub(crate) fn new(alloc: Global) -> Self
-        ensures wholes { result.wholes.items ≡ [] }
-        ensures partials { result.partials.items ≡ [] }
-    {
-        ListedForms {
-            wholes: Vec::new(alloc),
-            partials: Vec::new(alloc),
-        }
-    }
-
     /// The forms whose numbers are listed, in the order of the lists. Fails where memory is refused.
     pub(crate) fn of(alloc: Global, forms: &FormList, lists: &KeyLists) -> Result<Self, AllocError>
         ensures { IfOk result (λ listed. AreListedForms forms.now lists.now listed) }
@@ -182,27 +117,6 @@ impl ListedForms {
         Ok(ListedForms {
             wholes: listed_forms(alloc, forms, &lists.wholes.numbers)?,
             partials: listed_forms(alloc, forms, &lists.partials.numbers)?,
-        })
-    }
-
-    /// The forms whose numbers are listed, in the order of the lists, where these are the earlier ones of the first so many forms. Fails
-    /// where memory is refused.
-    pub(crate) fn again(
-        &self,
-        alloc: Global,
-        forms: &FormList,
-        lists: &KeyLists,
-        end: usize,
-    ) -> Result<Self, AllocError>
-        requires wholes { SayTheirForms (take end forms.now) self.now.wholes.items }
-        requires partials { SayTheirForms (take end forms.now) self.now.partials.items }
-        ensures { IfOk result (λ listed. AreListedForms forms.now lists.now listed) }
-    {
-        let wholes = &lists.wholes.numbers;
-        let partials = &lists.partials.numbers;
-        Ok(ListedForms {
-            wholes: listed_again(alloc, forms, wholes, &self.wholes, end)?,
-            partials: listed_again(alloc, forms, partials, &self.partials, end)?,
         })
     }
 

@@ -134,16 +134,6 @@ impl Filling {
 }
 
 impl Lists {
-    /// No list has a number.
-    pub(crate) fn new(alloc: Global) -> Self
-        ensures { (key : ℕ) → list_at result.starts.items result.numbers.items key ≡ [] }
-    {
-        Lists {
-            starts: Vec::new(alloc),
-            numbers: Vec::new(alloc),
-        }
-    }
-
     /// Whether no list has a number.
     pub(crate) fn is_empty(&self) -> bool
         ensures { (result ≡ true) ↔ ((key : ℕ) → list_at self.now.starts.items self.now.numbers.items key ≡ []) }

@@ -1,4 +1,5 @@
 use Rattle.indexes.proofs.Keyed.{chains_found}
+use Rattle.indexes.specs.FormIndex.{listed_at}
 use Rattle.indexes.proofs.indexed_problem.IndexedProblem.chains.Goals as goal
 
 pub with_second-requires : goal.with_second-requires
@@ -6,4 +7,4 @@ with_second-requires c = rw (c.of-listed.ensures) (c.self.invariant.index.chains
 
 pub returns : goal.returns
 returns c = λ n. rw (← c.self.view_is, ← c.key_of_property.ensures, ← c.key_of_property-2.ensures)
-    (chains_found _ c.self.inside.index.chains _ _ c.of-listed.result.now _ c.of-listed.ensures c.self.invariant.index.listed.chains c.with_second.ensures n)
+    (chains_found _ (listed_at c.self.inside.index.chains) _ _ c.of-listed.result.now _ c.of-listed.ensures c.self.invariant.index.listed.chains c.with_second.ensures n)

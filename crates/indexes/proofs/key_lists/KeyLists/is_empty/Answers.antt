@@ -1,12 +1,12 @@
 use Rattle.std.proofs.Common.{◌≡◌, ℕ, [], sym, ◌∙◌}
 use Rattle.std.proofs.lemmas.Bool.{false≢true}
-use Rattle.indexes.specs.FormIndex.{ListsNothing}
+use Rattle.indexes.specs.FormIndex.{at_key, ListsNothing}
 use Rattle.indexes.specs.Lists.{list_at}
 use Rattle.indexes.specs.declared.key_lists.KeyLists.{KeyLists}
 use Rattle.indexes.specs.declared.keys.Key.TheVariants.{Whole, Partial}
 use Rattle.indexes.proofs.key_lists.KeyLists.is_empty.Goals as goal
 
-no_lists : (lists : KeyLists) → ((key : ℕ) → list_at lists.wholes.starts.items lists.wholes.numbers.items key ≡ []) → ((key : ℕ) → list_at lists.partials.starts.items lists.partials.numbers.items key ≡ []) → ListsNothing lists
+no_lists : (lists : KeyLists) → ((key : ℕ) → list_at lists.wholes.starts.items lists.wholes.numbers.items key ≡ []) → ((key : ℕ) → list_at lists.partials.starts.items lists.partials.numbers.items key ≡ []) → ListsNothing (at_key lists)
 no_lists lists wholes partials (Whole k) = wholes k
 no_lists lists wholes partials (Partial k) = partials k
 

@@ -20,7 +20,7 @@ same old new wholes partials (Partial k) n = partials k n
 abbrev IsOrdered : List Form → Lists → Type 0
 IsOrdered forms lists = (k : ℕ) → IsInOrder forms (list_at lists.starts.items lists.numbers.items k)
 
-order : (forms : List Form) (lists : KeyLists) → IsOrdered forms lists.wholes → IsOrdered forms lists.partials → AreInOrder forms lists
+order : (forms : List Form) (lists : KeyLists) → IsOrdered forms lists.wholes → IsOrdered forms lists.partials → AreInOrder forms (at_key lists)
 order forms lists wholes partials (Whole k) = wholes k
 order forms lists wholes partials (Partial k) = partials k
 
