@@ -5,15 +5,11 @@ use Rattle.std.proofs.lemmas.List.Elements.{Contains-append_cases, Contains-appe
 use Rattle.normal_forms.specs.declared.forms.Class2.{Class2}
 use Rattle.normal_forms.specs.declared.forms.Class2.TheVariants as class
 use Rattle.normal_forms.specs.declared.forms.PropId2.{PropId2}
-use Rattle.lemmas.proofs.Members.{Contains-none, Contains-one}
+use Rattle.lemmas.proofs.Members.{Contains-one}
 use Rattle.facts.specs.declared.contexts.Context.{Context}
 use Rattle.facts.specs.declared.contexts.Fact.{Fact}
 use Rattle.facts.specs.declared.contexts.Fact.TheVariants.{In, Edge}
 use Rattle.inference.specs.ClassNumbers.{IsAboveClass, IsAboveClasses}
-
--- no facts
-pub above_no_facts : (end : ℕ) → IsAboveClasses end []
-above_no_facts end = record { above = λ e x there. absurd (Contains-none (In (class.Expr e) x) there) }
 
 -- a fact that puts something into the class
 pub above_own : (end : ℕ) (a : Class2) (x : Context) → IsAboveClass end a → IsAboveClasses end (In a x ∷ [])

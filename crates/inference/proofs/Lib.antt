@@ -19,3 +19,5 @@ pub mod Marking
 pub mod Flagging
 pub mod Planning
 pub mod ClassNumbers
+pub mod Tagging
+pub mod BirthLists

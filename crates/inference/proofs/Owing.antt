@@ -1,5 +1,5 @@
 -- Entries of contexts, and the loops that are drawn when they are served.
-use Rattle.std.proofs.Common.{◌≡◌, ℕ, ◌<◌, inl, inr, ⊎_elim, List, length, take, slice_get, Option, Some, Contains, refl, ap, ◌∙◌, subst, arith}
+use Rattle.std.proofs.Common.{◌≡◌, ℕ, ◌<◌, inl, inr, ⊎_elim, List, length, take, slice_get, Option, Some, refl, ap, ◌∙◌, subst, arith}
 use Rattle.normal_forms.specs.declared.forms.Class2.{Class2}
 use Rattle.normal_forms.specs.declared.forms.Form.{Form}
 use Rattle.normal_forms.specs.declared.forms.Form.TheVariants.{N1, N2, N3, N4, N5, N6, N7, N8, N9, N10, N12}
@@ -8,11 +8,11 @@ use Rattle.facts.specs.declared.contexts.Context.TheVariants.{Expr}
 use Rattle.facts.specs.declared.contexts.Fact.{Fact}
 use Rattle.facts.specs.declared.contexts.Fact.TheVariants.{In}
 use Rattle.facts.specs.Births.{Reason}
-use Rattle.facts.specs.Closure.{Problem, IsContextBy, IsLoop, Gives, IsFact, in_thing, in_itself, by_form, unsatisfiable, loop, handed_on, different, apart, given, condition, thing}
+use Rattle.facts.specs.Closure.{Problem, IsContextBy, IsLoop, Gives, in_thing, in_itself, by_form, unsatisfiable, loop, handed_on, different, apart, condition, thing}
 use Rattle.inference.specs.Derivations.{Derived, IsDerived, Grows}
 use Rattle.inference.specs.Completeness.{AreLoopsDrawn, HasEntry, IsContextAt, IsEntry, IsOwed}
-use Rattle.inference.proofs.Growth.{older_facts, sound, there_still}
-use Rattle.inference.proofs.Lists.{one_value, slice_get-from_Contains, slice_get_take, slice_get_there}
+use Rattle.inference.proofs.Growth.{there_still}
+use Rattle.inference.proofs.Lists.{one_value, slice_get_take, slice_get_there}
 use Rattle.inference.proofs.Places.{at_still}
 
 -- ---- what is an entry stays one

@@ -1,5 +1,5 @@
 -- What stands of chains for each property, and of restrictions for each property and class.
-use Rattle.std.specs.Prelude.{◌≡◌, ℕ, List, slice_get, Some}
+use Rattle.std.specs.Prelude.{◌≡◌, ◌<◌, ◌⊎◌, ℕ, List, length, slice_get, Some}
 use denote.Struct.Props as logic
 use Rattle.normal_forms.specs.declared.forms.Form.{Form}
 use Rattle.normal_forms.specs.declared.forms.PropId2.TheVariants.{Property}
@@ -21,3 +21,7 @@ pub record AreJoins (forms : List Form) (joins : Joins) : Type 0 where
 
 pub AreJoins-prop : (forms : List Form) (joins : Joins) → IsProp (AreJoins forms joins)
 AreJoins-prop forms joins = Prim.hlevel logic.props
+
+-- the property of that number has a mask or a plan
+abbrev pub HasMask : Joins → ℕ → Type 0
+HasMask joins n = (n < length joins.seconds.items) ⊎ (n < length joins.ends.items) ⊎ (n < length joins.above.items) ⊎ (n < length joins.plans)

@@ -15,3 +15,5 @@ pub mod Flags
 pub mod Led
 pub mod Premises
 pub mod ClassNumbers
+pub mod Tags
+pub mod BirthLists

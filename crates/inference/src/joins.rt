@@ -9,7 +9,7 @@ ghost use Rattle.normal_forms.specs.declared.forms.Class2.TheVariants as the_cla
 ghost use Rattle.property_closure.specs.PropertyClosures.{Has};
 ghost use Rattle.inference.specs.PropertyClosures.{IsClosureOf};
 ghost use Rattle.inference.specs.Marks.{AreRestrictions, AreRestrictionsBefore, AreRestrictionsWithin, HasAbove, HasBit, HasEnd, HasEnds, HasFilled, HasFilledAt, HasSecondAt, HasSeconds};
-ghost use Rattle.inference.specs.Joins.{AreJoins};
+ghost use Rattle.inference.specs.Joins.{AreJoins, HasMask};
 ghost use Rattle.inference.specs.Plans.{IsPlan};
 
 use crate::conclusions::NOTHING;
@@ -319,6 +319,17 @@ impl Joins {
         }
         joins.plans = all_plans(alloc, problem, closure)?;
         Ok(joins)
+    }
+
+    /// Whether the property has a mask or a plan.
+    pub fn has_mask(&self, property: PropId) -> bool
+        ensures { IsTrue result ↔ HasMask self.now property.0 }
+    {
+        let number = property.index();
+        number < self.seconds.len()
+            || number < self.ends.len()
+            || number < self.above.len()
+            || number < self.plans.len()
     }
 
     /// Whether marks are of use: there are masks of what chains join.

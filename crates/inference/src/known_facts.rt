@@ -1,15 +1,18 @@
 //! The facts so far, and what gave them.
 ghost use Rattle.facts.specs.Births.{reason};
 ghost use Rattle.inference.specs.Derivations.{with_fact};
-ghost use Rattle.inference.specs.ClassNumbers.{IsAboveClass, IsAboveClasses};
+ghost use Rattle.inference.specs.ClassNumbers.{IsAboveClass, IsAboveClasses, IsPast};
 ghost use Rattle.inference.specs.Flags.{HasEntryFacts};
 ghost use Rattle.inference.specs.Marks.{AreMarks, IsMark};
+ghost use Rattle.inference.specs.Tags.{NoneIn};
 ghost use Rattle.inference.specs.Visits.{IsBy};
 ghost use Rattle.facts.specs.declared.contexts.Fact.{Fact as Fact2};
 ghost use Rattle.normal_forms.specs.declared.forms.PropId2.TheVariants as properties;
 ghost use Rattle.inference.specs.declared.known_facts.Stop.TheVariants as stops;
-ghost use Rattle.std.specs.Prelude.{◌≡◌, ◌<◌, ◌^◌, ◌∷◌, Some, [], length, map, take, slice_get, Contains, Ok, IfOk, IfSome, IsNone, OnErr, false, true};
+ghost use Rattle.std.specs.Prelude.{◌≡◌, ◌<◌, ◌≤◌, ◌^◌, ◌∷◌, Some, [], length, map, take, slice_get, Contains, Ok, IfOk, IfSome, IsNone, OnErr, false, true};
 
+use crate::birth_list::BirthList;
+use crate::class_tags::ClassTags;
 use crate::context_flags::ContextFlags;
 use axioms::{Memory, PropId};
 use facts::{Birth, Context, Fact, FactTable, StoredFact};
@@ -42,7 +45,9 @@ impl From<Memory> for Stop {
 #[derive(Drop)]
 pub struct KnownFacts {
     facts: FactTable,
-    births: Vec<Birth>,
+    births: BirthList,
+    /// The tags of each fact, by which the facts of a class are found without a look at each.
+    tags: ClassTags,
     /// A mark of each of the first facts, by which the property of an edge is told without a look at the edge.
     marks: Vec<u16>,
     /// Contexts that are known to have what is in each context.
@@ -52,18 +57,17 @@ pub struct KnownFacts {
 }
 
 impl Model for KnownFacts {
-    ghost use Rattle.facts.specs.Births.{reason};
     ghost use Rattle.inference.specs.ClassNumbers.{IsAboveClasses};
     ghost use Rattle.inference.specs.Derivations.{Derived};
     ghost use Rattle.inference.specs.Flags.{AreFlags};
     ghost use Rattle.inference.specs.Marks.{AreMarks};
-    ghost use Rattle.std.specs.Prelude.{map};
+    ghost use Rattle.inference.specs.Tags.{AreTags};
 
     ghost Value = { Derived };
 
-    ghost view = { λ s. record { facts = s.facts; births = map reason s.births.items } };
+    ghost view = { λ s. record { facts = s.facts; births = s.births.reasons } };
 
-    ghost invariant = { λ s. AreMarks s.facts s.marks.items × AreFlags (record { facts = s.facts; births = map reason s.births.items }) s.entered × IsAboveClasses s.end s.facts };
+    ghost invariant = { λ s. AreMarks s.facts s.marks.items × AreFlags (record { facts = s.facts; births = s.births.reasons }) s.entered × IsAboveClasses s.end s.facts × AreTags s.facts s.tags.low s.tags.high };
 }
 
 /// A number above that of the class, where it is an expression.
@@ -83,6 +87,16 @@ fn end_of(fact: Fact) -> usize
     match fact {
         Fact::In(class, _) => end_of_class(class),
         Fact::Edge(..) => 0,
+    }
+}
+
+/// Whether the class is an expression whose number is not below that.
+fn is_past(class: Class2, end: usize) -> bool
+    ensures { result ≡ true → IsPast end class }
+{
+    match class {
+        Class2::Expr(class) => end <= class.index(),
+        Class2::Partial(_) => false,
     }
 }
 
@@ -113,15 +127,6 @@ fn mark_all(facts: &[StoredFact], marks: &mut Vec<u16>)
     }
 }
 
-/// The same births, with room for as many more.
-fn copied(births: &Vec<Birth>) -> Result<Vec<Birth>, Memory>
-    ensures { IfOk result (λ copy. copy.items ≡ births.now.items) }
-{
-    let mut copy = Vec::with_capacity(*births.allocator(), births.capacity())?;
-    copy.extend_from_slice(births)?;
-    Ok(copy)
-}
-
 impl KnownFacts {
     /// No facts.
     pub fn new(alloc: Global, state: RandomState) -> Self
@@ -130,7 +135,8 @@ impl KnownFacts {
     {
         KnownFacts {
             facts: FactTable::new(alloc, state),
-            births: Vec::new(alloc),
+            births: BirthList::new(alloc),
+            tags: ClassTags::new(alloc),
             marks: Vec::new(alloc),
             entered: ContextFlags::new(alloc),
             end: 0,
@@ -145,12 +151,14 @@ impl KnownFacts {
     pub fn copy(&self) -> Result<KnownFacts, Memory>
         ensures { IfOk result (λ f. f ≡ self.now) }
     {
-        let births = copied(&self.births)?;
+        let births = self.births.copy()?;
+        let tags = self.tags.copy()?;
         let facts = self.facts.copy()?;
-        let alloc = *self.births.allocator();
+        let alloc = self.allocator();
         Ok(KnownFacts {
             facts,
             births,
+            tags,
             marks: Vec::new(alloc),
             entered: ContextFlags::new(alloc),
             end: self.end,
@@ -159,7 +167,7 @@ impl KnownFacts {
 
     /// What gives it memory.
     pub(crate) fn allocator(&self) -> Global {
-        *self.births.allocator()
+        *self.marks.allocator()
     }
 
     /// The facts, in order of birth.
@@ -178,11 +186,19 @@ impl KnownFacts {
         self.facts.len()
     }
 
-    /// A number above that of each expression into which one of the facts puts something.
-    pub fn classes_end(&self) -> usize
-        ensures { IsAboveClasses result self.now.facts }
+    /// Passes over the facts from that number on that put nothing into the class: the number of one that may, if there is any. It looks
+    /// at the tags of the facts alone.
+    pub fn next_in(&self, class: Class2, from: usize) -> Option<u32>
+        ensures low { IfSome result (λ number. from ≤ number) }
+        ensures high { IfSome result (λ number. number < length self.now.facts) }
+        ensures before { IfSome result (λ number. NoneIn from number self.now.facts class) }
+        ensures none { IsNone result → NoneIn from (length self.now.facts) self.now.facts class }
     {
-        self.end
+        if from >= self.facts.len() || is_past(class, self.end) {
+            return None;
+        }
+        let number = self.tags.next(class, from)?;
+        Some(number as u32)
     }
 
     /// The fact of that number.
@@ -198,28 +214,37 @@ impl KnownFacts {
         requires { number < length self.now.births }
         ensures { slice_get self.now.births number ≡ Some (reason result.now) }
     {
-        &self.births[number as usize]
+        self.births.at(number as usize)
     }
 
     /// What gave the facts, in their order.
-    pub fn births(&self) -> &[Birth]
-        ensures { map reason result.now ≡ self.now.births }
+    pub fn births(&self) -> &BirthList
+        ensures { result.now.reasons ≡ self.now.births }
     {
         &self.births
     }
 
+    /// Lets what gave the facts be shared by copies, where memory is to be had.
+    pub fn share_births(&mut self)
+        ensures { self.new ≡ self.old }
+    {
+        self.births.share();
+    }
+
     /// The facts, and what gave them, without what finds a fact.
-    pub fn into_lists(self) -> (Vec<StoredFact>, Vec<Birth>)
+    pub fn into_lists(self) -> (Vec<StoredFact>, BirthList)
         ensures facts { result.0.items ≡ self.facts }
-        ensures births { map reason result.1.items ≡ self.births }
+        ensures births { result.1.reasons ≡ self.births }
     {
         let KnownFacts {
             facts,
-            births,
+            mut births,
+            tags: _,
             marks: _,
             entered: _,
             end: _,
         } = self;
+        births.unshare();
         (facts.into_list(), births)
     }
 
@@ -258,9 +283,11 @@ impl KnownFacts {
         ensures err { OnErr result (self.new ≡ self.old) }
     {
         self.births.reserve(1)?;
+        self.tags.reserve(1)?;
         let is_new = self.facts.insert(fact)?;
         if is_new {
-            self.births.push_reserved(birth);
+            self.births.push(birth);
+            self.tags.push(fact);
             self.end = self.end.max(end_of(fact));
         }
         Ok(is_new)
@@ -307,7 +334,10 @@ impl KnownFacts {
     pub fn expect(&mut self, facts: usize, contexts: usize)
         ensures { self.new ≡ self.old }
     {
-        if self.births.reserve(facts).is_ok() && self.facts.reserve(facts, contexts).is_ok() {
+        if self.births.reserve(facts).is_ok()
+            && self.tags.reserve(facts).is_ok()
+            && self.facts.reserve(facts, contexts).is_ok()
+        {
             return;
         }
     }
@@ -319,6 +349,7 @@ impl KnownFacts {
     {
         self.facts.truncate(len);
         self.births.truncate(len);
+        self.tags.truncate(len);
         self.marks.truncate(len);
         self.entered.clear();
     }

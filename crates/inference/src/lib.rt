@@ -2,6 +2,8 @@
 #![tactic(auto)]
 
 mod apart;
+mod birth_list;
+mod class_tags;
 mod conclusions;
 mod context_flags;
 mod differences;
@@ -19,6 +21,7 @@ mod sameness;
 mod second_premises;
 mod visits;
 
+pub use birth_list::BirthList;
 pub use joins::Joins;
 pub use known_facts::{KnownFacts, Stop};
 pub use premises::Premise;

@@ -1,4 +1,4 @@
-use Rattle.std.proofs.Common.{List, subst, sym, ◌++◌, ◌∷◌, [], ◌∙◌}
+use Rattle.std.proofs.Common.{List, subst, sym}
 use Rattle.normal_forms.specs.declared.forms.PropId2.TheVariants.{Property}
 use Rattle.inference.specs.declared.plans.PlannedChain.{PlannedChain}
 use Rattle.inference.specs.Plans.{IsPlan}
