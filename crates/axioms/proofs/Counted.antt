@@ -1,7 +1,6 @@
 -- Lists that are counted from 1.
-use Rattle.std.proofs.Common.{◌≡◌, ℕ, zero, suc, ◌-◌, ◌<◌, ◌≤◌, List, length, map, Some, None, get_or, sym, ap, ◌∙◌, arith}
-use Rattle.std.proofs.lemmas.Option.{slice_get-map, slice_get_past, slice_get-get_or}
-use Rattle.std.proofs.lemmas.List.{length-map}
+use Rattle.std.proofs.Common.{◌≡◌, ℕ, zero, suc, ◌-◌, ◌<◌, ◌≤◌, List, length, map, Some, get_or, sym, ap, ◌∙◌, arith}
+use Rattle.std.proofs.lemmas.Option.{slice_get-map, slice_get-get_or}
 use Rattle.std.specs.Option.{option_map}
 use Rattle.axioms.specs.View.{at_number}
 
@@ -11,7 +10,3 @@ at_number-inside view xs (suc n) x some within is =
     let place : suc n - 1 ≡ n = omega arith in
     let inside : n < length xs = omega arith in
     slice_get-map view xs n ∙ ap (option_map view) (slice_get-get_or xs n x inside ∙ ap Some (sym (is ∙ ap (λ k. get_or xs k x) place)))
-
-pub at_number-outside : {A B : Type 0} (view : A → B) (xs : List A) (n : ℕ) → length xs < n → at_number (map view xs) n ≡ None
-at_number-outside view xs zero past = absurd (omega arith)
-at_number-outside view xs (suc n) past = slice_get_past (map view xs) n (omega (arith, length-map xs view))

@@ -2,7 +2,7 @@
 use Rattle.std.proofs.Common.{◌≡◌, ◌≢◌, ℕ, suc, ◌+◌, ◌^◌, ◌<◌, ◌≤◌, inl, inr, List, [], ◌∷◌, ◌++◌, length, get_or, take, slice_get, Some, ◌↔◌, true, false, refl, sym, ap, ◌∙◌, subst, arith}
 use Rattle.std.proofs.lemmas.Bool.{cases_eq, cases_lt, iff_false}
 use Rattle.std.proofs.lemmas.List.{length_push, length-take, get_or_append_left, get_or_past, get_or-take}
-use Rattle.std.proofs.lemmas.Option.{none-some, same_Some, slice_get_within}
+use Rattle.std.proofs.lemmas.Option.{same_Some, slice_get_within}
 use Rattle.std.proofs.Math.Seq.{get_or-append_seam}
 use Rattle.lemmas.proofs.Places.{slice_get_push_cases, slice_get_push, slice_get_take, take_slice_get, keeps_push}
 use Rattle.facts.specs.declared.contexts.Fact.{Fact}
@@ -115,19 +115,6 @@ chained_pop c len key last newest before newest' before' at long is here others 
           let (low, was) = slice_get_take len c.facts place fact there in
           rw (taken, get_or-take len before place 0 low) (newest_fewer c len (key_of c.by fact) place (get_or before place 0) (omega (arith, low)) (old.next place fact was));
     }
-
--- no facts
-pub chained_none : (by : Key) → AreChained (record { by = by; facts = [] }) [] []
-chained_none by = record {
-  few = omega arith;
-  long = refl;
-  first = λ key. record {
-    within = omega arith;
-    leads = λ place is. absurd (omega (arith, is));
-    newest = λ place fact low. absurd (omega (arith, low));
-  };
-  next = λ place fact there. absurd (none-some fact there);
-}
 
 -- newest facts by a list with the same numbers
 pub chained_same : (c : Chained) (newest before newest' : List ℕ) → ((i : ℕ) → get_or newest' i 0 ≡ get_or newest i 0) → AreChained c newest before → AreChained c newest' before

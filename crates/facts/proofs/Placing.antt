@@ -1,16 +1,14 @@
 -- Slots, and what is found in them.
-use Rattle.std.proofs.Common.{◌≡◌, ◌≢◌, ℕ, zero, suc, ◌<◌, ◌≤◌, inl, inr, List, [], ◌∷◌, length, get_or, set, slice_get, Some, Result, Ok, Err, IfOk, OnOk, refl, sym, ap, ◌∙◌, arith}
+use Rattle.std.proofs.Common.{◌≡◌, ◌≢◌, ℕ, zero, suc, ◌<◌, ◌≤◌, inl, inr, List, [], ◌∷◌, length, get_or, set, slice_get, Some, Result, Ok, Err, OnOk, refl, sym, ap, ◌∙◌, arith}
 use Rattle.std.proofs.lemmas.Bool.{cases_lt}
 use Rattle.std.proofs.lemmas.Nat.{and_le_r}
 use Rattle.facts.specs.Hashes.{hash_of}
 use Rattle.std.proofs.lemmas.Option.{none-some, slice_get-get_or}
 use Rattle.facts.specs.declared.seeds.Seeds.{Seeds}
 use Rattle.facts.specs.declared.contexts.Fact.{Fact}
-use Rattle.facts.specs.declared.slots.Found.{Found}
-use Rattle.facts.specs.declared.slots.Found.TheVariants.{At, Free}
 use Rattle.facts.specs.declared.slots.Slots.{Slots}
 use Rattle.facts.specs.declared.slots.Slots.TheVariants.{Few, Many}
-use Rattle.facts.specs.Slots.{bucket_of, buckets_of, numbers_of, IsFirstFree, HasRoom, CanHold, IfFree}
+use Rattle.facts.specs.Slots.{bucket_of, buckets_of, numbers_of, IsFirstFree, HasRoom, CanHold}
 
 pub set_here : {X : Type 0} (xs : List X) (i : ℕ) (x y : X) → slice_get xs i ≡ Some y → slice_get (set xs i x) i ≡ Some x
 set_here [] i x y h = absurd (none-some y h)
@@ -34,16 +32,6 @@ read_at xs i x within read = slice_get-get_or xs i x within ∙ ap Some (sym rea
 pub on_ok : {A E : Type 0} (r : Result A E) {P Q : Type 0} → OnOk r P → (P → Q) → OnOk r Q
 on_ok (Ok x) h f = f h
 on_ok (Err e) h f = tt
-
--- what follows from two facts of what was answered
-pub if_ok : {A E : Type 0} (r : Result A E) {P Q R : A → Type 0} → IfOk r P → IfOk r Q → ((x : A) → P x → Q x → R x) → IfOk r R
-if_ok (Ok x) h k f = f x h k
-if_ok (Err e) h k f = tt
-
--- what follows for the free slot
-pub if_free : (found : Found) {P Q : ℕ → Type 0} → IfFree found P → ((slot : ℕ) → P slot → Q slot) → IfFree found Q
-if_free (At place) h f = tt
-if_free (Free slot) h f = f slot h
 
 -- the one bucket is the first
 pub one_bucket : (seeds : Seeds) (fact : Fact) → bucket_of seeds 1 fact ≡ 0

@@ -1,10 +1,9 @@
 -- What single steps of the code give.
-use Rattle.std.proofs.Common.{◌≡◌, ℕ, zero, suc, ◌+◌, ◌-◌, ◌<◌, ◌≤◌, ◌⊎◌, inl, inr, Bool, true, List, [], ◌∷◌, ◌++◌, length, take, map, slice_get, Some, None, refl, sym, ap, ◌∙◌, subst, arith, add-one}
+use Rattle.std.proofs.Common.{◌≡◌, ℕ, zero, suc, ◌+◌, ◌-◌, ◌<◌, ◌≤◌, ◌⊎◌, inl, inr, Bool, true, List, [], ◌∷◌, ◌++◌, length, take, map, slice_get, Some, refl, sym, ap, ◌∙◌, subst, arith, add-one}
 use Rattle.std.specs.Prelude.{◌↔◌, slice_index}
 use Rattle.std.proofs.lemmas.Bool.Decides.{nat_tests}
 use Rattle.std.proofs.lemmas.Bool.{cases_eq}
 use Rattle.std.proofs.lemmas.Option.{none-some, same_Some, slice_get_within}
-use Rattle.std.proofs.Math.Seq.{take-append_seam}
 use Rattle.lemmas.proofs.Choices.{one_value}
 use Rattle.lemmas.proofs.Places.{slice_get_push_cases}
 use Rattle.axioms.specs.Growth.{Numbers}
@@ -212,9 +211,6 @@ shorter_property t (properties.Partial n) rs k p l h = h.0 ∙ ap Some (sym (tak
 some_name : (old new : Lists) (list : List ℕ) (k n : ℕ) → k + 1 < length list → Numbers old (take (k + 1) list) new n → Names old new list k
 some_name old new list k n l numbers = record { some = λ _. (n, numbers); all = λ e. absurd (omega arith) }
 
-no_name : (old : Lists) (list : List ℕ) (k : ℕ) → k + 1 ≡ length list → Names old old list k
-no_name old list k e = record { some = λ l. absurd (omega arith); all = λ _. refl }
-
 -- a list with a number was there, or is the prefix that got it
 named_cases : (old new : Lists) (list : List ℕ) (k : ℕ) → k < length list → Names old new list k → (n : ℕ) (xs : List ℕ) → slice_get new n ≡ Some xs → (slice_get old n ≡ Some xs) ⊎ ((k + 1 < length list) × (xs ≡ take (k + 1) list))
 named_cases old new list k within names n xs g = elim (cases_eq (k + 1) (length list)) [
@@ -231,17 +227,11 @@ more_numbered s t ds e k n p l es ea ss numbers =
     let many : 2 ≤ length (take (k + 1) ds) = omega (arith, take_long (k + 1) ds (omega arith)) in
     record { entries = es; apart = ea; steps = ss; operands = lengthens_numbered _ _ _ n numbers; names = some_name s.operands t.operands ds k n l numbers; starts = λ _. (there, many); says = (take (k + 1) ds, there, first_more ds e (k + 1) (omega arith) l) }
 
-pub more_whole : (s : Made) (ds : List ℕ) (k : ℕ) (e : ExprId) → k + 1 ≡ length ds → MoreOperands s s ds e.0 k (classes.Expr e)
-more_whole s ds k e l = record { entries = refl; apart = refl; steps = refl; operands = lengthens_same _ _ refl; names = no_name s.operands ds k l; starts = λ h. absurd (omega arith); says = first_whole ds e.0 (k + 1) l }
-
 pub steps_numbered : (s t : Made) (rs : List ℕ) (whole k n : ℕ) → 0 < k → k + 1 < length rs → t.entries ≡ s.entries → t.apart ≡ s.apart → t.operands ≡ s.operands → Numbers s.steps (take (k + 1) rs) t.steps n → MoreSteps s t rs whole k (properties.Partial n)
 steps_numbered s t ds whole k n p l es ea ss numbers =
     let there = numbered_there s.steps (take (k + 1) ds) t.steps n numbers in
     let many : 2 ≤ length (take (k + 1) ds) = omega (arith, take_long (k + 1) ds (omega arith)) in
     record { entries = es; apart = ea; operands = ss; steps = lengthens_numbered _ _ _ n numbers; names = some_name s.steps t.steps ds k n l numbers; starts = λ _. (there, many); says = (take (k + 1) ds, there, steps_more ds (Property whole) (k + 1) (omega arith) l) }
-
-pub steps_whole_say : (s : Made) (rs : List ℕ) (k : ℕ) (p : PropId) → k + 1 ≡ length rs → MoreSteps s s rs p.0 k (properties.Property p)
-steps_whole_say s rs k p l = record { entries = refl; apart = refl; operands = refl; steps = lengthens_same _ _ refl; names = no_name s.steps rs k l; starts = λ h. absurd (omega arith); says = steps_whole rs (Property p.0) (k + 1) l }
 
 starts_class_more : (t u : Lists) → Keeps t u → (c : code_class.Class2) (ds : List ℕ) → StartsClass t c ds → StartsClass u c ds
 starts_class_more t u k (classes.Expr e) ds h = h
@@ -372,10 +362,6 @@ expressed nodes R L k node r l gn er el = adds_same (SideGives node (record { 0 
         let P : Node → Type 0 = λ z. RightGives k z g in let Q : Node → Type 0 = λ z. LeftGives k z g in
         (e, elim h [ inl x ↦ inl (er.1 x.0, subst P same x.1) | inr y ↦ inr (el.1 y.0, subst Q same y.1) ])
 
--- no expression has that number
-pub expressed_none : (s : Made) (nodes : List Node) (R L : ℕ → Type 0) (k : ℕ) → slice_get nodes k ≡ None → Adds s s (ExpressedAt nodes R L k)
-expressed_none s nodes R L k none = adds_none s (ExpressedAt nodes R L k) (λ o g h. none-some h.0 (sym none ∙ h.1))
-
 -- the expression whose number stands at that place
 pub expressed_by : {s t : Made} (nodes : List Node) (R L : ℕ → Type 0) (numbers : List ℕ) (place n : ℕ) → slice_get numbers place ≡ Some n → Adds s t (ExpressedAt nodes R L n) → Adds s t (ExpressedBy nodes R L numbers place)
 expressed_by nodes R L numbers place n at = adds_same (ExpressedAt nodes R L n) (ExpressedBy nodes R L numbers place) (λ o g h. (n, at, h))
@@ -384,9 +370,6 @@ expressed_by nodes R L numbers place n at = adds_same (ExpressedAt nodes R L n) 
 pub take_first : (ds : List ℕ) (d : ℕ) → slice_get ds 0 ≡ Some d → take 1 ds ≡ d ∷ []
 take_first [] d g = absurd (none-some d g)
 take_first (x ∷ ds) d g = ap (λ y. y ∷ []) (same_Some x d g)
-
-pub take_whole : {X : Type 0} (n : ℕ) (xs ys : List X) → length xs ≡ n → take n (xs ++ ys) ≡ xs
-take_whole n xs ys e = subst (λ m. take m (xs ++ ys) ≡ xs) e (take-append_seam xs ys)
 
 pub map-take : {A B : Type 0} (f : A → B) (k : ℕ) (xs : List A) → map f (take k xs) ≡ take k (map f xs)
 map-take f zero xs = refl

@@ -4,7 +4,7 @@ use Rattle.std.proofs.lemmas.Bool.{cases_order}
 use Rattle.std.proofs.lemmas.List.{append-nil}
 use Rattle.std.proofs.lemmas.Option.{none-some, slice_get_within}
 use Rattle.lemmas.proofs.Choices.{one_value}
-use Rattle.lemmas.proofs.Members.{Contains-from_slice_get, slice_get-from_Contains}
+use Rattle.lemmas.proofs.Members.{slice_get-from_Contains}
 use Rattle.lemmas.proofs.Places.{slice_get_there}
 use Rattle.axioms.specs.Ontology.{Ontology, Axiom, Node}
 use Rattle.axioms.specs.View.{at_number}
@@ -15,7 +15,7 @@ use Rattle.normal_forms.specs.declared.forms.Origin.{Origin}
 use Rattle.normal_forms.specs.declared.forms.Origin.TheVariants as origins
 use Rattle.normal_forms.specs.Forms.{Form, IsForm}
 use Rattle.normal_forms.specs.Origins.{GivenBy, RightGives, LeftGives}
-use Rattle.normal_forms.specs.Occurrences.{Occurs, itself, part, AtRight, AtLeft}
+use Rattle.normal_forms.specs.Occurrences.{AtRight, AtLeft}
 use Rattle.normal_forms.proofs.Sources.{forms_given, given_forms}
 use Rattle.normalise.specs.declared.entries.Entry.{Entry}
 use Rattle.normalise.specs.declared.made.Made.{Made}
@@ -24,7 +24,7 @@ use Rattle.normalise.specs.Growth.{Grown, Grows, Has, IsFreshAt, IsHeld, IsHeldA
 use Rattle.normalise.specs.Listing.{Listing}
 use Rattle.normalise.specs.Marks.{IsMarked, MarksOccurring}
 use Rattle.normalise.specs.Steps.{ExpressedTo, StatedFrom}
-use Rattle.normalise.specs.View.{Adds, Keeps, Lengthens, IsBehind, Place, AtEntry, AtClasses, AtIndividuals}
+use Rattle.normalise.specs.View.{Adds, Lengthens, IsBehind, Place, AtEntry, AtClasses, AtIndividuals}
 use Rattle.normalise.proofs.Adding.{adds_behind, adds_both, adds_same, at_one, at_within, before, behind_nothing}
 use Rattle.normalise.proofs.FreshNames.{begins_given, chains_given, expressions_name_none, given_begins, kept_front}
 use Rattle.normalise.proofs.Giving.{sides_apart}

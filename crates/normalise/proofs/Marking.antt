@@ -25,9 +25,6 @@ set_other (y ∷ xs) zero x (suc m) ne = refl
 set_other (y ∷ xs) (suc n) x zero ne = refl
 set_other (y ∷ xs) (suc n) x (suc m) ne = set_other xs n x m (λ e. ne (ap suc e))
 
-pub marks_none : (m : List Bool) (P : ℕ → Type 0) → ((e : ℕ) → e < length m → P e → ⊥) → Marks m m P
-marks_none m P none = record { same_length = refl; kept = λ e h. h; only = λ e h. inl h; all = λ e l p. absurd (none e l p) }
-
 pub marks_set : (m : List Bool) (n : ℕ) → n < length m → Marks m (set m n true) (λ e. e ≡ n)
 marks_set m n l = record {
   same_length = length-set m n true;
@@ -137,9 +134,6 @@ more_both P Q m n = record { marks = marks_both P Q m.marks n.marks; notes = not
 
 -- ---- the marks of a list, one after the other
 
-pub each_none : {X : Type 0} (xs : List X) (F : X → ℕ → Type 0) (m : Marked) → MarksMore m m (EachOf xs F 0)
-each_none xs F m = more_none m (EachOf xs F 0) (λ e l h. absurd (omega (arith, h.1)))
-
 pub each_more : {X : Type 0} (xs : List X) (F : X → ℕ → Type 0) (k : ℕ) (x : X) {a b c : Marked} → slice_get xs k ≡ Some x → MarksMore a b (EachOf xs F k) → MarksMore b c (F x) → MarksMore a c (EachOf xs F (k + 1))
 each_more xs F k x g m n = more_same (λ e. EachOf xs F k e ⊎ F x e) (EachOf xs F (k + 1)) to from (more_both (EachOf xs F k) (F x) m n)
   where
@@ -187,10 +181,6 @@ part_smaller o ok d (Class c) e g p = absurd p
 part_smaller o ok d (And ds) e g p = All-contains (λ x. x < d) ds e (ok.nodes d (And ds) g).within p
 part_smaller o ok d (Exists r c) e g p = let l : c < d = (ok.nodes d (Exists r c) g).1 in omega (arith, p)
 
--- the parts of the expression of that number are those of the node there
-pub below_part : {a b : Marked} (nodes : List Node) (d : ℕ) (node : Node) → slice_get nodes d ≡ Some node → MarksMore a b (IsPart node) → MarksMore a b (IsPartOf nodes d)
-below_part nodes d node at = more_same (IsPart node) (IsPartOf nodes d) (λ e p. (node, at, p)) (λ e h. (let P : Node → Type 0 = λ z. IsPart z e in subst P (one_value _ h.0 node h.1 at) h.2))
-
 pub below_none : (m : Marked) (nodes : List Node) (d : ℕ) → slice_get nodes d ≡ None → MarksMore m m (IsPartOf nodes d)
 below_none m nodes d none = more_none m (IsPartOf nodes d) (λ e l h. none-some h.0 (sym none ∙ h.1))
 
@@ -234,10 +224,6 @@ closing_more nodes old now new next d here h step = record {
           let same : q.0 ≡ k = one_value _ q.0 k (step.notes.keeps i q.0 q.1) at in
           step.marks.kept e (h.closed i k node e (omega arith) (q.1 ∙ ap Some same) g p w))
     ]
-
--- the place is not yet behind all that there may be to note
-pub closing_within : (nodes : List Node) (old now : Marked) (next : ℕ) → IsClosing nodes old now next → length now.noted.items ≤ unmarked old.marks.items + length old.noted.items
-closing_within nodes old now next h = omega (arith, h.notes.count)
 
 pub closed_all : (nodes : List Node) (old now : Marked) (next : ℕ) → length now.noted.items ≤ next → IsClosing nodes old now next → Closes nodes old now
 closed_all nodes old now next end h = record {

@@ -2,15 +2,15 @@
 use Rattle.std.proofs.Common.{◌≡◌, ◌++◌, ◌-◌, ◌+◌, ℕ, zero, suc, ◌<◌, ◌≤◌, ◌⊎◌, inl, inr, Bool, true, false, List, [], ◌∷◌, length, slice_get, replicate, Some, Contains, refl, sym, ap, ◌∙◌, subst, arith, length-append}
 use Rattle.std.proofs.lemmas.Bool.{cases_order}
 use Rattle.std.proofs.lemmas.Option.{none-some, slice_get_within}
-use Rattle.axioms.specs.Ontology.{Ontology, Axiom, Node}
+use Rattle.axioms.specs.Ontology.{Ontology, Axiom}
 use Rattle.axioms.specs.WellFormedness.{IsOntology}
 use Rattle.lemmas.proofs.Choices.{one_value}
 use Rattle.lemmas.proofs.Members.{Contains-from_slice_get, slice_get-from_Contains}
 use Rattle.lemmas.proofs.Places.{slice_get_there}
 use Rattle.normal_forms.specs.Occurrences.{Occurs, Reached, itself, part, AtSome}
 use Rattle.normalise.specs.declared.marks.Marked.{Marked}
-use Rattle.normalise.specs.Growth.{AreMarkedAgain, AreNoted, AreThere, Grows}
-use Rattle.normalise.specs.Marks.{AreNotedMarked, IsMarked, Marks, MarksMore, Closes, EachFrom, MarksOccurring, Notes}
+use Rattle.normalise.specs.Growth.{AreNoted, AreThere, Grows}
+use Rattle.normalise.specs.Marks.{IsMarked, MarksMore, Closes, EachFrom, MarksOccurring, Notes}
 use Rattle.normalise.specs.View.{Keeps}
 use Rattle.normalise.proofs.Adding.{keeps_long}
 use Rattle.normalise.proofs.Marking.{more_both, notes_both, part_smaller}
@@ -48,13 +48,6 @@ replicate_long (suc n) = ap suc (replicate_long n)
 reached_occurs : (At : Axiom → ℕ → Type 0) (p : Ontology) (asked : List ℕ) (P : ℕ → Type 0) → ((e : ℕ) → P e → Occurs At p asked e) → (e : ℕ) → Reached p.nodes P e → Occurs At p asked e
 reached_occurs At p asked P to e (itself h) = to e h
 reached_occurs At p asked P to e (part d node r g h) = part d node (reached_occurs At p asked P to d r) g h
-
--- nothing is noted at the start, and then only what is marked
-pub noted_marked : (start b : Marked) → start.noted.items ≡ [] → Notes start b → AreNotedMarked b
-noted_marked start b none notes e c = elim (notes.each e c) [
-  | inl i ↦ absurd (let q = slice_get-from_Contains start.noted.items e i in none-some e (ap (λ xs. slice_get xs q.0) (sym none) ∙ q.1))
-  | inr m ↦ m
-]
 
 module _ (At : Axiom → ℕ → Type 0) (p : Ontology) (ok : IsOntology p) (from : ℕ) (asked : List ℕ) (old : List Bool) (start a b c : Marked) (begins : start.marks.items ≡ old ++ replicate (length p.nodes - length old) false)
     (first : MarksMore start a (EachFrom p.axioms At from (length p.axioms))) (second : MarksMore a b (Contains asked)) (closed : Closes p.nodes b c) where

@@ -1,5 +1,5 @@
 -- Which forms ask for a fact, by the keys of forms.
-use Rattle.std.proofs.Common.{◌≡◌, ℕ, ◌⊎◌, inl, inr, ⊎_elim, Bool, true, false, not, eqb, Option, List, [], ◌∷◌, length, slice_get, ◌≤◌, ◌<◌, arith, Some, Contains, refl, sym, ap, subst, ◌∙◌}
+use Rattle.std.proofs.Common.{◌≡◌, ◌↔◌, ℕ, ◌⊎◌, inl, inr, ⊎_elim, Bool, true, false, not, eqb, Option, List, [], ◌∷◌, length, slice_get, arith, Some, Contains, refl, sym, ap, subst, ◌∙◌}
 use Rattle.std.proofs.lemmas.Bool.{false≢true}
 use Rattle.std.proofs.lemmas.Option.{none-some, same_Some}
 use Rattle.axioms.specs.declared.ids.IndId.{IndId}
@@ -19,8 +19,7 @@ use Rattle.facts.specs.Closure.{Problem, thing}
 use Rattle.indexes.specs.declared.keys.Key.TheVariants.{Whole}
 use Rattle.indexes.specs.Keys.{class_key, property_key, individual_key, by_kind, by_alone, by_first, by_filler, by_chain, by_plain, by_linked_first, by_linked_second, by_denied, by_target}
 use Rattle.indexes.specs.FormsUnderKeys.{IsUnder}
-use Rattle.saturate.specs.Requests.{Asks, AsksForLater, BeginsWith, Denies, HasForm, IsAsked, IsAskedByForm, IsAskedByList, IsInLater, IsLater, LeaveEdges, ListAsks, NamesAbove, NamesClass, NamesIndividual}
-use Rattle.inference.specs.ClassNumbers.{IsAboveClasses}
+use Rattle.saturate.specs.Requests.{Asks, AsksByClass, BeginsWith, Denies, HasForm, IsAsked, IsAskedByForm, IsAskedByList, IsOfNamed, IsOfNamedClass, LeaveEdges, ListAsks, NamesAbove, NamesClass, NamesIndividual}
 use Rattle.inference.proofs.Lists.{Contains-from_slice_get, slice_get-from_Contains}
 
 -- a list that is not empty has some number
@@ -376,38 +375,37 @@ no_edge_asked all added leave f x p y is asked = ⊎_elim
     (λ w. let none : ListAsks w.0 (Edge x p y) = subst (ListAsks w.0) is w.2 in none)
     asked
 
--- a form that names a class asks for no facts but those of the class
-asks_named : (forms : List Form) (form : Form) (a : Class2) (f : Fact) → NamesClass form a → Asks forms form f → (x : Context) × (f ≡ In a x)
-asks_named forms (N1 _ _) a (In c x) names asks = (x, ap (λ (d : Class2). In d x) (asks ∙ sym names))
-asks_named forms (N1 _ _) a (Edge _ _ _) names asks = absurd asks
-asks_named forms (N2 _ _ _) a (In c x) names asks = (x, ap (λ (d : Class2). In d x) (asks ∙ sym names))
-asks_named forms (N2 _ _ _) a (Edge _ _ _) names asks = absurd asks
-asks_named forms (N3 _ _ _) a (In c x) names asks = (x, ap (λ (d : Class2). In d x) (asks ∙ sym names))
-asks_named forms (N3 _ _ _) a (Edge _ _ _) names asks = absurd asks
-asks_named forms (N4 _ _ _) a (In c x) names asks = (x, ap (λ (d : Class2). In d x) (asks ∙ sym names))
-asks_named forms (N4 _ _ _) a (Edge _ _ _) names asks = absurd asks
-asks_named forms (N7 _) a (In c x) names asks = (x, ap (λ (d : Class2). In d x) (asks ∙ sym names))
-asks_named forms (N7 _) a (Edge _ _ _) names asks = absurd asks
-asks_named forms (N5 _ _) a f names asks = absurd names
-asks_named forms (N6 _ _ _) a f names asks = absurd names
-asks_named forms (N8 _ _) a f names asks = absurd names
-asks_named forms (N9 _ _ _) a f names asks = absurd names
-asks_named forms (N10 _ _) a f names asks = absurd names
-asks_named forms (N12 _ _ _) a f names asks = absurd names
-
-pub asks_later : (end : ℕ) (form : Form) (a : Class2) → NamesClass form a → IsLater end a → AsksForLater end form
-asks_later end form a names later forms f asks = let w = asks_named forms form a f names asks in (a, w.0, w.1, later)
+-- a form asks for the facts of a class that it names
+asks_named : (forms : List Form) (form : Form) (f : Fact) → IsOfNamed form f → Asks forms form f
+asks_named forms (N1 _ _) (In c x) names = names
+asks_named forms (N1 _ _) (Edge x p y) names = absurd names
+asks_named forms (N2 _ _ _) (In c x) names = names
+asks_named forms (N2 _ _ _) (Edge x p y) names = absurd names
+asks_named forms (N3 _ _ _) (In c x) names = names
+asks_named forms (N3 _ _ _) (Edge x p y) names = absurd names
+asks_named forms (N4 _ _ _) (In c x) names = names
+asks_named forms (N4 _ _ _) (Edge x p y) names = absurd names
+asks_named forms (N5 _ _) (In c x) names = absurd names
+asks_named forms (N5 _ _) (Edge x p y) names = absurd names
+asks_named forms (N6 _ _ _) (In c x) names = absurd names
+asks_named forms (N6 _ _ _) (Edge x p y) names = absurd names
+asks_named forms (N7 _) (In c x) names = names
+asks_named forms (N7 _) (Edge x p y) names = absurd names
+asks_named forms (N8 _ _) (In c x) names = absurd names
+asks_named forms (N8 _ _) (Edge x p y) names = absurd names
+asks_named forms (N9 _ _ _) (In c x) names = absurd names
+asks_named forms (N9 _ _ _) (Edge x p y) names = absurd names
+asks_named forms (N10 _ _) (In c x) names = absurd names
+asks_named forms (N10 _ _) (Edge x p y) names = absurd names
+asks_named forms (N12 _ _ _) (In c x) names = absurd names
+asks_named forms (N12 _ _ _) (Edge x p y) names = absurd names
 
 -- where there is no list, and each form asks for such facts alone
-pub asked_later : (end : ℕ) (all : List Form) (added : Problem) (f : Fact) → ((n : ℕ) (form : Form) → slice_get added.forms n ≡ Some form → AsksForLater end form) → length added.apart.classes ≡ 0 → IsAsked all added f → IsInLater end f
-asked_later end all added f each lists asked = ⊎_elim
-    (λ (w : IsAskedByForm all added.forms f). let at = slice_get-from_Contains added.forms w.0 w.1 in each at.0 w.0 at.1 all f w.2)
-    (λ (w : IsAskedByList added.apart.classes f). absurd (omega (arith, w.1.1, lists)))
-    asked
-
--- .. and no fact is of a class with such a number
-pub none_later : (end : ℕ) (facts : List Fact) (f : Fact) → IsAboveClasses end facts → Contains facts f → IsInLater end f → ⊥
-none_later end facts f above there later =
-    let e = later.3.0 in
-    let low = above.above e later.1 (subst (Contains facts) (later.2 ∙ ap (λ (a : Class2). In a later.1) later.3.1) there) in
-    omega (arith, low, later.3.2)
+pub asked_by_class : (all : List Form) (added : Problem) (f : Fact) → ((n : ℕ) (form : Form) → slice_get added.forms n ≡ Some form → AsksByClass form) → length added.apart.classes ≡ 0 → IsOfNamedClass added.forms f ↔ IsAsked all added f
+asked_by_class all added f each lists = (
+  λ named. inl (asked_as (λ form. IsOfNamed form f) (λ form. Asks all form f) added.forms (λ form is. asks_named all form f is) named),
+  λ asked. ⊎_elim
+      (λ (w : IsAskedByForm all added.forms f). let at = slice_get-from_Contains added.forms w.0 w.1 in (w.0, w.1, each at.0 w.0 at.1 all f w.2))
+      (λ (w : IsAskedByList added.apart.classes f). absurd (omega (arith, w.1.1, lists)))
+      asked,
+)

@@ -1,5 +1,5 @@
--- What the roots and the edges that were served lead to is there still, where no form of properties is added.
-use Rattle.std.proofs.Common.{◌≡◌, ◌⊎◌, inl, inr, sym, ◌∙◌, ⊎_elim, false, true≢false, ℕ, List, [], ◌∷◌, ◌++◌, take, length, Option, Some, None, Contains, subst}
+-- What the roots and the edges that were served lead to is there still, where no property is made reflexive.
+use Rattle.std.proofs.Common.{◌≡◌, ◌⊎◌, inl, inr, sym, ◌∙◌, ⊎_elim, ℕ, List, [], ◌∷◌, ◌++◌, take, length, Option, Some, None, Contains, subst}
 use Rattle.std.proofs.Math.Seq.{take-append_seam}
 use Rattle.std.proofs.lemmas.List.Elements.{Contains-append_cases}
 use Rattle.facts.specs.Closure.{Gives, IsLoop, Problem, in_itself, in_thing, loop, thing}
@@ -15,27 +15,26 @@ use Rattle.inference.specs.Completeness.{HasEntry, IsCompleteUpToRedundancy, IsO
 use Rattle.inference.specs.Derivations.{Derived}
 use Rattle.inference.proofs.Owing.{class_is_not_owed}
 use Rattle.lemmas.proofs.Members.{slice_get-from_Contains}
-use Rattle.normal_forms.specs.Properties.{is_property_form}
 use Rattle.normal_forms.specs.declared.apart.ApartLists.{ApartLists}
 use Rattle.normal_forms.specs.declared.forms.Form.{Form}
 use Rattle.normal_forms.specs.declared.forms.Form.TheVariants.{N1, N2, N3, N4, N5, N6, N7, N8, N9, N10, N12}
 use Rattle.saturate.specs.GoingOn.{HasEntered}
-use Rattle.saturate.specs.Growth.{with_more}
+use Rattle.saturate.specs.Growth.{with_more, LeavesEntries}
 
-not_loop : (form : Form) → is_property_form form ≡ false → (x : Context) (f : Fact) → IsLoop x form f → ⊥
+not_loop : (form : Form) → LeavesEntries form → (x : Context) (f : Fact) → IsLoop x form f → ⊥
 not_loop (N1 a b) e x f l = l
 not_loop (N2 a b c) e x f l = l
 not_loop (N3 a r b) e x f l = l
 not_loop (N4 r a b) e x f l = l
 not_loop (N5 r s) e x f l = l
 not_loop (N6 r s t) e x f l = l
-not_loop (N7 r) e x f l = true≢false e
+not_loop (N7 r) e x f l = e
 not_loop (N8 i a) e x f l = l
 not_loop (N9 i r j) e x f l = l
 not_loop (N10 a b) e x f l = l
 not_loop (N12 a r b) e x f l = l
 
-module _ (k : Problem) (forms : List Form) (lists : ApartLists) (roots : List Context) (leave : (form : Form) → Contains forms form → is_property_form form ≡ false) where
+module _ (k : Problem) (forms : List Form) (lists : ApartLists) (roots : List Context) (leave : (form : Form) → Contains forms form → LeavesEntries form) where
   old_form : (form : Form) → Contains (k.forms ++ forms) form → (x : Context) (f : Fact) → IsLoop x form f → Contains k.forms form
   old_form form c x f l = ⊎_elim (λ there. there) (λ new. absurd (not_loop form (leave form new) x f l)) (Contains-append_cases k.forms forms form c)
 

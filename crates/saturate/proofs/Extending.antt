@@ -83,7 +83,7 @@ below_more forms added p _ same = same
 below_more forms added p _ (step s t h c) = step s t (below_more forms added p (Property s) h) (Contains-append_left forms added (N5 s t) c)
 
 -- a path that is new has a form that is new, whose lower property lies above its start
-below_cases : (forms added : List Form) (p q : PropId2) → IsAtOrBelow (forms ++ added) p q → IsAtOrBelow forms p q ⊎ ((x y : Context) → NewFormAsks forms (forms ++ added) (Edge x p y))
+pub below_cases : (forms added : List Form) (p q : PropId2) → IsAtOrBelow (forms ++ added) p q → IsAtOrBelow forms p q ⊎ ((x y : Context) → NewFormAsks forms (forms ++ added) (Edge x p y))
 below_cases forms added p _ same = inl same
 below_cases forms added p _ (step s t h c) = ⊎_elim
     (λ low. ⊎_elim

@@ -18,3 +18,5 @@ pub mod Staying
 pub mod Removing
 pub mod Summaries
 pub mod FormKeys
+pub mod Settling
+pub mod Shifting

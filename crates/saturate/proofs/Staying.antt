@@ -1,5 +1,5 @@
--- What the index lists is right still where no form that is added is of properties.
-use Rattle.std.proofs.Common.{◌≡◌, ℕ, zero, suc, ◌+◌, inl, inr, ⊎_elim, true, false, true≢false, List, [], ◌∷◌, ◌++◌, drop, length, slice_get, Some, None, Contains, refl, sym, ap, ◌∙◌, subst, arith}
+-- What the index lists is right still where no form that is added is a chain, and what the roots lead to where none makes a property reflexive.
+use Rattle.std.proofs.Common.{◌≡◌, ℕ, zero, suc, ◌+◌, inl, inr, ⊎_elim, List, [], ◌∷◌, ◌++◌, drop, length, slice_get, Some, None, Contains, refl, sym, ap, ◌∙◌, subst, arith}
 use Rattle.std.proofs.lemmas.List.Elements.{Contains-append_cases}
 use Rattle.normal_forms.specs.Apart.{AreContinuedBy}
 use Rattle.normal_forms.specs.declared.apart.ApartLists.{ApartLists}
@@ -8,7 +8,7 @@ use Rattle.normal_forms.specs.declared.forms.Form.TheVariants.{N1, N2, N3, N4, N
 use Rattle.normal_forms.specs.declared.forms.PropId2.{PropId2}
 use Rattle.normal_forms.specs.declared.forms.PropId2.TheVariants.{Property}
 use Rattle.normal_forms.specs.declared.forms.Class2.{Class2}
-use Rattle.normal_forms.specs.Properties.{IsAtOrBelow, same, step, is_property_form}
+use Rattle.normal_forms.specs.Properties.{IsAtOrBelow, same}
 use Rattle.facts.specs.declared.contexts.Context.{Context}
 use Rattle.facts.specs.declared.contexts.Fact.{Fact}
 use Rattle.facts.specs.declared.contexts.Fact.TheVariants.{In, Edge}
@@ -22,45 +22,55 @@ use Rattle.inference.specs.Visits.{IsNotCarried}
 use Rattle.inference.proofs.Lists.{Contains-from_slice_get, slice_get-from_Contains}
 use Rattle.saturate.specs.Requests.{Asks, IsAskedAnew}
 use Rattle.saturate.specs.GoingOn.{HasEntered}
-use Rattle.saturate.specs.Growth.{with_more, IsGrownFrom, KeepsServed, LeaveProperties}
+use Rattle.saturate.specs.Growth.{with_more, EachFrom, IsGrownFrom, KeepsServed, LeavesEntries, LeavesLists}
 use Rattle.saturate.specs.IndexedFacts.{ListsFacts}
 use Rattle.saturate.proofs.Entering.{entered}
-use Rattle.saturate.proofs.Extending.{new_or_there, redundant_more}
+use Rattle.saturate.proofs.Extending.{below_cases, new_or_there, redundant_more}
 use Rattle.saturate.proofs.Listing.{fewer}
 
-module _ (k : Problem) (forms : List Form) (lists : ApartLists) (roots : List Context) (continued : AreContinuedBy k.apart lists) (leave : (form : Form) → Contains forms form → is_property_form form ≡ false) where
-  -- no path is new
-  below_still : (p q : PropId2) → IsAtOrBelow (k.forms ++ forms) p q → IsAtOrBelow k.forms p q
-  below_still p _ same = same
-  below_still p _ (step s t h c) = ⊎_elim
-      (λ before. step s t (below_still p (Property s) h) before)
-      (λ new. absurd (true≢false (leave (N5 s t) new)))
-      (Contains-append_cases k.forms forms (N5 s t) c)
+module _ (k : Problem) (forms : List Form) (lists : ApartLists) (roots : List Context) (continued : AreContinuedBy k.apart lists) (leave : (form : Form) → Contains forms form → LeavesLists form) where
+  -- no path from the property of an edge is new that no form asks for
+  below_still : (x y : Context) (p q : PropId2) → ¬ IsAskedAnew k (with_more k forms lists roots) (Edge x p y) → IsAtOrBelow (k.forms ++ forms) p q → IsAtOrBelow k.forms p q
+  below_still x y p q unasked path = ⊎_elim (λ before. before) (λ asks. absurd (unasked (inl (asks x y)))) (below_cases k.forms forms p q path)
 
-  two_still : (form : Form) (g h f : Fact) → FromTwo (with_more k forms lists roots) form g h f → FromTwo k form g h f
-  two_still (N2 a b c) (In d x) (In e y) f w = w
-  two_still (N2 a b c) (In d x) (Edge _ _ _) f w = absurd w
-  two_still (N2 a b c) (Edge _ _ _) h f w = absurd w
-  two_still (N4 r a b) (Edge x q y) (In c z) f w = (below_still q (Property r) w.0, w.1, w.2, w.3)
-  two_still (N4 r a b) (Edge x q y) (Edge _ _ _) f w = absurd w
-  two_still (N4 r a b) (In _ _) h f w = absurd w
-  two_still (N6 r s t) (Edge x p y) (Edge z q i) f w = (below_still p r w.0, below_still q s w.1, w.2, w.3)
-  two_still (N6 r s t) (Edge x p y) (In _ _) f w = absurd w
-  two_still (N6 r s t) (In _ _) h f w = absurd w
-  two_still (N1 _ _) g h f w = absurd w
-  two_still (N3 _ _ _) g h f w = absurd w
-  two_still (N5 _ _) g h f w = absurd w
-  two_still (N7 _) g h f w = absurd w
-  two_still (N8 _ _) g h f w = absurd w
-  two_still (N9 _ _ _) g h f w = absurd w
-  two_still (N10 _ _) g h f w = absurd w
-  two_still (N12 _ _ _) g h f w = absurd w
+  -- what a chain gives from two edges of which no form asks for the second it gave from an edge of its first property and that
+  chain_still : (form : Form) (g f : Fact) (z : Context) (q : PropId2) (v : Context) → ¬ IsAskedAnew k (with_more k forms lists roots) (Edge z q v) → FromTwo (with_more k forms lists roots) form g (Edge z q v) f
+      → (h : Fact) × FromTwo k form h (Edge z q v) f
+  chain_still (N6 r s t) (Edge x p y) f z q v unasked w = (Edge x r y, (same, below_still z v q s unasked w.1, w.2, w.3))
+  chain_still (N6 _ _ _) (In _ _) f z q v unasked w = absurd w
+  chain_still (N1 _ _) g f z q v unasked w = absurd w
+  chain_still (N2 _ _ _) (In _ _) f z q v unasked w = absurd w
+  chain_still (N2 _ _ _) (Edge _ _ _) f z q v unasked w = absurd w
+  chain_still (N3 _ _ _) g f z q v unasked w = absurd w
+  chain_still (N4 _ _ _) (In _ _) f z q v unasked w = absurd w
+  chain_still (N4 _ _ _) (Edge _ _ _) f z q v unasked w = absurd w
+  chain_still (N5 _ _) g f z q v unasked w = absurd w
+  chain_still (N7 _) g f z q v unasked w = absurd w
+  chain_still (N8 _ _) g f z q v unasked w = absurd w
+  chain_still (N9 _ _ _) g f z q v unasked w = absurd w
+  chain_still (N10 _ _) g f z q v unasked w = absurd w
+  chain_still (N12 _ _ _) g f z q v unasked w = absurd w
+
+  -- what a form gives from an edge and a class it gave from an edge of its property and that
+  restriction_still : (form : Form) (x : Context) (q : PropId2) (y : Context) (c : Class2) (z : Context) (f : Fact) → FromTwo (with_more k forms lists roots) form (Edge x q y) (In c z) f
+      → (p : PropId2) × FromTwo k form (Edge x p y) (In c z) f
+  restriction_still (N4 r a b) x q y c z f w = (Property r, (same, w.1, w.2, w.3))
+  restriction_still (N1 _ _) x q y c z f w = absurd w
+  restriction_still (N2 _ _ _) x q y c z f w = absurd w
+  restriction_still (N3 _ _ _) x q y c z f w = absurd w
+  restriction_still (N5 _ _) x q y c z f w = absurd w
+  restriction_still (N6 _ _ _) x q y c z f w = absurd w
+  restriction_still (N7 _) x q y c z f w = absurd w
+  restriction_still (N8 _ _) x q y c z f w = absurd w
+  restriction_still (N9 _ _ _) x q y c z f w = absurd w
+  restriction_still (N10 _ _) x q y c z f w = absurd w
+  restriction_still (N12 _ _ _) x q y c z f w = absurd w
 
   -- a form that gives something from two facts of which the second is an edge is a chain
-  chain : (form : Form) (g f : Fact) (z : Context) (q : PropId2) (v : Context) → FromTwo (with_more k forms lists roots) form g (Edge z q v) f → is_property_form form ≡ true
-  chain (N6 _ _ _) g f z q v w = refl
-  chain (N5 _ _) g f z q v w = refl
-  chain (N7 _) g f z q v w = refl
+  chain : (form : Form) (g f : Fact) (z : Context) (q : PropId2) (v : Context) → FromTwo (with_more k forms lists roots) form g (Edge z q v) f → ¬ LeavesLists form
+  chain (N6 _ _ _) g f z q v w = λ leaves. leaves
+  chain (N5 _ _) g f z q v w = absurd w
+  chain (N7 _) g f z q v w = absurd w
   chain (N1 _ _) g f z q v w = absurd w
   chain (N2 _ _ _) (In _ _) f z q v w = absurd w
   chain (N2 _ _ _) (Edge _ _ _) f z q v w = absurd w
@@ -86,17 +96,18 @@ module _ (k : Problem) (forms : List Form) (lists : ApartLists) (roots : List Co
   restriction (N10 _ _) x q y c z f w = absurd w
   restriction (N12 _ _ _) x q y c z f w = absurd w
 
-  redundant_edge : (d : Derived) (z : Context) (q : PropId2) (v : Context) → IsRedundantAsSecond k d (Edge z q v) → IsRedundantAsSecond (with_more k forms lists roots) d (Edge z q v)
-  redundant_edge d z q v redundant f _ _ _ (in_thing c) = absurd c
-  redundant_edge d z q v redundant f _ _ _ (in_itself c) = absurd c
-  redundant_edge d z q v redundant f h _ _ (by_form n form at gives) = ⊎_elim
+  redundant_edge : (d : Derived) (z : Context) (q : PropId2) (v : Context) → ¬ IsAskedAnew k (with_more k forms lists roots) (Edge z q v) → IsRedundantAsSecond k d (Edge z q v) → IsRedundantAsSecond (with_more k forms lists roots) d (Edge z q v)
+  redundant_edge d z q v unasked redundant f _ _ _ (in_thing c) = absurd c
+  redundant_edge d z q v unasked redundant f _ _ _ (in_itself c) = absurd c
+  redundant_edge d z q v unasked redundant f h _ _ (by_form n form at gives) = ⊎_elim
       (λ before.
       let m = slice_get-from_Contains k.forms form before in
-      redundant_more k forms lists roots continued d f (Edge z q v) h m.0 n form m.1 at (redundant f h _ (Some m.0) (by_form m.0 form m.1 (two_still form f (Edge z q v) h gives))))
-      (λ new. absurd (true≢false (sym (chain form f h z q v gives) ∙ leave form new)))
+      let w = chain_still form f h z q v unasked gives in
+      redundant_more k forms lists roots continued d w.0 (Edge z q v) h m.0 n form m.1 at (redundant w.0 h _ (Some m.0) (by_form m.0 form m.1 w.1)))
+      (λ new. absurd (chain form f h z q v gives (leave form new)))
       (Contains-append_cases k.forms forms form (Contains-from_slice_get (k.forms ++ forms) n form at))
-  redundant_edge d z q v redundant f h _ _ (unsatisfiable b) = absurd (redundant f h _ None (unsatisfiable b))
-  redundant_edge d z q v redundant f _ _ _ (loop u m form at l c) = absurd c
+  redundant_edge d z q v unasked redundant f h _ _ (unsatisfiable b) = absurd (redundant f h _ None (unsatisfiable b))
+  redundant_edge d z q v unasked redundant f _ _ _ (loop u m form at l c) = absurd c
 
   uncarried : (c : Class2) (z : Context) → ¬ IsAskedAnew k (with_more k forms lists roots) (In c z) → IsNotCarried k (In c z) → IsNotCarried (with_more k forms lists roots) (In c z)
   uncarried c z unasked not (In _ _) edge _ _ h gives = absurd edge
@@ -104,14 +115,14 @@ module _ (k : Problem) (forms : List Form) (lists : ApartLists) (roots : List Co
   uncarried c z unasked not (Edge x q y) edge _ _ _ (in_itself a) = absurd a
   uncarried c z unasked not (Edge x q y) edge _ _ h (by_form n form at gives) = ⊎_elim
       (λ new. unasked (inl (form, new, restriction form x q y c z h gives)))
-      (λ before. not (Edge x q y) edge _ (Some before.0) h (by_form before.0 form before.1 (two_still form (Edge x q y) (In c z) h gives)))
+      (λ before. let w = restriction_still form x q y c z h gives in not (Edge x w.0 y) edge _ (Some before.0) h (by_form before.0 form before.1 w.1))
       (new_or_there k.forms forms form (Contains-from_slice_get (k.forms ++ forms) n form at))
   uncarried c z unasked not (Edge x q y) edge _ _ h (unsatisfiable b) = not (Edge x q y) edge _ None h (unsatisfiable b)
   uncarried c z unasked not (Edge x q y) edge _ _ _ (loop u m form at l a) = absurd a
 
-  redundant_from : (d : Derived) (x : Context) (f : Fact) → IsFrom x f → IsRedundantAsSecond k d f → IsRedundantAsSecond (with_more k forms lists roots) d f
-  redundant_from d x (In _ _) h redundant = absurd h
-  redundant_from d x (Edge z q v) h redundant = redundant_edge d z q v redundant
+  redundant_from : (d : Derived) (x : Context) (f : Fact) → IsFrom x f → ¬ IsAskedAnew k (with_more k forms lists roots) f → IsRedundantAsSecond k d f → IsRedundantAsSecond (with_more k forms lists roots) d f
+  redundant_from d x (In _ _) h unasked redundant = absurd h
+  redundant_from d x (Edge z q v) h unasked redundant = redundant_edge d z q v unasked redundant
 
   uncarried_in : (x : Context) (f : Fact) → IsIn x f → ¬ IsAskedAnew k (with_more k forms lists roots) f → IsNotCarried k f → IsNotCarried (with_more k forms lists roots) f
   uncarried_in x (In c z) h unasked not = uncarried c z unasked not
@@ -124,7 +135,7 @@ module _ (k : Problem) (forms : List Form) (lists : ApartLists) (roots : List Co
     second_premises = record {
       all = λ x n f c at h. ⊎_elim
           (λ here. inl here)
-          (λ redundant. inr (redundant_from d x f h redundant))
+          (λ redundant. inr (redundant_from d x f h (λ asked. ((keeps n).0 c).1 (f, at, asked)) redundant))
           (s.second_premises.all x n f ((keeps n).0 c).0 at h);
       only = s.second_premises.only;
     };
@@ -149,16 +160,16 @@ slice_get_drop (suc n) (x ∷ xs) i = slice_get_drop n xs i ∙ ap (slice_get (x
     place m j = omega arith
 
 -- the forms that are added are those from that number on
-added : (from : ℕ) (all : List Form) → LeaveProperties from all → (form : Form) → Contains (drop from all) form → is_property_form form ≡ false
-added from all leave form there =
+pub added : (P : Form → Type 0) (from : ℕ) (all : List Form) → EachFrom P from all → (form : Form) → Contains (drop from all) form → P form
+added P from all each form there =
     let at = slice_get-from_Contains (drop from all) form there in
-    leave (from + at.0) form (omega arith) (sym (slice_get_drop from all at.0) ∙ at.1)
+    each (from + at.0) form (omega arith) (sym (slice_get_drop from all at.0) ∙ at.1)
 
-pub listed_then : {k j : Problem} {d : Derived} {w m : List ℕ} {index : Index} (from : ℕ) → IsGrownFrom from k j → LeaveProperties from j.forms → (now : List ℕ) → KeepsServed k j d.facts w now → ListsFacts k d w m index → ListsFacts j d now m index
+pub listed_then : {k j : Problem} {d : Derived} {w m : List ℕ} {index : Index} (from : ℕ) → IsGrownFrom from k j → EachFrom LeavesLists from j.forms → (now : List ℕ) → KeepsServed k j d.facts w now → ListsFacts k d w m index → ListsFacts j d now m index
 listed_then {k} {j} {d} {w} {m} {index} from is leave now keeps s =
     subst (λ (i : Problem). ListsFacts i d now m index) (sym is.problem)
-    (listed_by_more k (drop from j.forms) j.apart is.roots is.lists (added from j.forms leave) now (subst (λ (i : Problem). KeepsServed k i d.facts w now) is.problem keeps) s)
+    (listed_by_more k (drop from j.forms) j.apart is.roots is.lists (added LeavesLists from j.forms leave) now (subst (λ (i : Problem). KeepsServed k i d.facts w now) is.problem keeps) s)
 
-pub entered_then : {k j : Problem} {d : Derived} {served : List ℕ} (from : ℕ) → IsGrownFrom from k j → LeaveProperties from j.forms → IsCompleteUpToRedundancy k d served → HasEntered j (length k.roots) served d
+pub entered_then : {k j : Problem} {d : Derived} {served : List ℕ} (from : ℕ) → IsGrownFrom from k j → EachFrom LeavesEntries from j.forms → IsCompleteUpToRedundancy k d served → HasEntered j (length k.roots) served d
 entered_then {k} {j} {d} {served} from is leave complete =
-    subst (λ (i : Problem). HasEntered i (length k.roots) served d) (sym is.problem) (entered k (drop from j.forms) j.apart is.roots (added from j.forms leave) served complete)
+    subst (λ (i : Problem). HasEntered i (length k.roots) served d) (sym is.problem) (entered k (drop from j.forms) j.apart is.roots (added LeavesEntries from j.forms leave) served complete)

@@ -1,32 +1,40 @@
--- What forms come to is as it was where those that are added say nothing new.
+-- What forms come to is as it was where those that are added say nothing new of it.
 use Rattle.std.proofs.Common.{◌≡◌, ◌↔◌, ℕ, zero, suc, ◌+◌, ◌<◌, ◌≤◌, ◌⊎◌, inl, inr, ⊎_elim, Bool, true, false, true≢false, IsTrue, not, eqb, eqb-true, cond, List, [], ◌∷◌, ◌++◌, length, take, drop, slice_get, Option, Some, None, Contains, refl, sym, ap, ap₂, ◌∙◌, subst, append-nil, length-append, arith}
 use Rattle.std.proofs.lemmas.Bool.{cases_lt, eqb-false}
 use Rattle.std.proofs.lemmas.List.{take-append-drop}
-use Rattle.std.proofs.lemmas.List.Elements.{Contains-append_cases, filter-append}
-use Rattle.std.proofs.lemmas.Option.{none-some, slice_get_past}
-use Rattle.std.specs.List.{filter}
+use Rattle.std.proofs.lemmas.List.Elements.{All-contains, Contains-append_cases, filter-append}
+use Rattle.std.proofs.lemmas.Option.{none-some, slice_get_past, slice_get_within}
+use Rattle.std.specs.List.{All, filter}
 use Rattle.std.specs.Option.{option_and_then}
 use Rattle.lemmas.proofs.Members.{Contains-first, Contains-later, Contains-from_slice_get, slice_get-from_Contains}
 use Rattle.lemmas.proofs.Places.{slice_get_there}
+use Rattle.axioms.specs.declared.ids.PropId.{PropId}
 use Rattle.normal_forms.specs.declared.forms.Class2.{Class2}
 use Rattle.normal_forms.specs.declared.forms.Form.{Form}
 use Rattle.normal_forms.specs.declared.forms.Form.TheVariants.{N1, N2, N3, N4, N5, N6, N7, N8, N9, N10, N12}
 use Rattle.normal_forms.specs.declared.forms.PropId2.{PropId2}
-use Rattle.normal_forms.specs.declared.forms.PropId2.TheVariants.{Property}
-use Rattle.normal_forms.specs.Properties.{IsAtOrBelow, same, step, is_property_form}
+use Rattle.normal_forms.specs.declared.forms.PropId2.TheVariants.{Property, Partial}
+use Rattle.normal_forms.proofs.Filters.{kept}
+use Rattle.normal_forms.specs.Properties.{IsAtOrBelow, IsPropertyFormOf, same, step, is_property_form, property_forms}
 use Rattle.property_closure.specs.PropertyClosures.{Known, Has}
 use Rattle.indexes.specs.declared.keys.Key.{Key}
 use Rattle.indexes.specs.declared.keys.Key.TheVariants.{Whole}
 use Rattle.indexes.specs.Keys.{by_chain, by_end, by_filler, by_restricted, class_key, property_key}
 use Rattle.indexes.specs.FormsUnderKeys.{IsUnder, is_key, numbers_under}
 use Rattle.indexes.specs.Groups.{is_link}
+use Rattle.inference.specs.declared.joins.Joins.{Joins}
 use Rattle.inference.specs.declared.plans.PlannedChain.{PlannedChain}
+use Rattle.inference.specs.Joins.{AreJoins, HasMask}
 use Rattle.inference.specs.PropertyClosures.{IsClosureOf, PutsOnEdges}
+use Rattle.inference.specs.Sameness.{AreGroupsOf}
 use Rattle.inference.specs.Marks.{AreRestrictions, HasAbove, HasEnds, HasFilled, HasSeconds}
 use Rattle.inference.specs.Plans.{IsPlan}
-use Rattle.saturate.specs.declared.summary.Summary.{Summary}
-use Rattle.saturate.specs.Summaries.{IsSummaryOf, SaysNothingNew, SayNothingNew}
-use Rattle.saturate.proofs.Staying.{slice_get_drop}
+use Rattle.saturate.specs.declared.counts.Counts.{Counts}
+use Rattle.saturate.specs.Counts.{HasNames, IsMore}
+use Rattle.saturate.specs.Growth.{EachFrom}
+use Rattle.saturate.specs.Summaries.{LeavesClosure, LeavesGroups, LeavesJoins}
+use Rattle.saturate.proofs.Naming.{property_stays}
+use Rattle.saturate.proofs.Staying.{added}
 
 -- ---- a closure has a property where it lists one above it
 
@@ -96,120 +104,182 @@ module _ (key : Form → Option Key) (forms more : List Form) (none : (form : Fo
   all_still : (k : Key) → numbers_under key (slice_get (forms ++ more)) k (length (forms ++ more)) ≡ numbers_under key (slice_get forms) k (length forms)
   all_still k = numbers_still k (length (forms ++ more)) ∙ past_end k (length (forms ++ more)) (omega (arith, length-append forms more))
 
--- ---- a form that says nothing new
+-- ---- a form that leaves a part of a summary as it is
 
-record IsUnlisted (form : Form) : Type 0 where
-  filler : by_filler form ≡ None
-  restricted : by_restricted form ≡ None
-  chain : by_chain form ≡ None
-  end : by_end form ≡ None
-  property : is_property_form form ≡ false
-  link : is_link form ≡ false
+no_property : (closure : Known) (form : Form) → LeavesClosure closure form → is_property_form form ≡ false
+no_property closure (N1 _ _) h = refl
+no_property closure (N2 _ _ _) h = refl
+no_property closure (N3 _ _ _) h = refl
+no_property closure (N4 _ _ _) h = refl
+no_property closure (N5 _ _) h = absurd h
+no_property closure (N6 _ _ _) h = absurd h
+no_property closure (N7 _) h = absurd h
+no_property closure (N8 _ _) h = refl
+no_property closure (N9 _ _ _) h = refl
+no_property closure (N10 _ _) h = refl
+no_property closure (N12 _ _ _) h = refl
 
-unlisted : (closure : Known) (form : Form) → SaysNothingNew closure form → IsUnlisted form
-unlisted closure (N1 _ _) h = record { filler = refl; restricted = refl; chain = refl; end = refl; property = refl; link = refl }
-unlisted closure (N2 _ _ _) h = record { filler = refl; restricted = refl; chain = refl; end = refl; property = refl; link = refl }
-unlisted closure (N3 _ _ _) h = record { filler = refl; restricted = refl; chain = refl; end = refl; property = refl; link = refl }
-unlisted closure (N8 _ _) h = record { filler = refl; restricted = refl; chain = refl; end = refl; property = refl; link = refl }
-unlisted closure (N9 _ _ _) h = record { filler = refl; restricted = refl; chain = refl; end = refl; property = refl; link = refl }
-unlisted closure (N12 _ _ _) h = record { filler = refl; restricted = refl; chain = refl; end = refl; property = refl; link = refl }
-unlisted closure (N4 _ _ _) h = absurd h
-unlisted closure (N5 _ _) h = absurd h
-unlisted closure (N6 _ _ _) h = absurd h
-unlisted closure (N7 _) h = absurd h
-unlisted closure (N10 _ _) h = absurd h
-
-has_edges : (closure : Known) (form : Form) → SaysNothingNew closure form → (p : PropId2) → PutsOnEdges form p → Has closure p
+has_edges : (closure : Known) (form : Form) → LeavesClosure closure form → (p : PropId2) → PutsOnEdges form p → Has closure p
 has_edges closure (N3 _ r _) h p puts = subst (Has closure) (sym puts) h
 has_edges closure (N9 _ r _) h p puts = subst (Has closure) (sym puts) h
 has_edges closure (N1 _ _) h p puts = absurd puts
 has_edges closure (N2 _ _ _) h p puts = absurd puts
-has_edges closure (N8 _ _) h p puts = absurd puts
-has_edges closure (N12 _ _ _) h p puts = absurd puts
-has_edges closure (N4 _ _ _) h p puts = absurd h
-has_edges closure (N5 _ _) h p puts = absurd h
+has_edges closure (N4 _ _ _) h p puts = absurd puts
+has_edges closure (N5 _ _) h p puts = absurd puts
 has_edges closure (N6 _ _ _) h p puts = absurd h
 has_edges closure (N7 _) h p puts = absurd h
-has_edges closure (N10 _ _) h p puts = absurd h
+has_edges closure (N8 _ _) h p puts = absurd puts
+has_edges closure (N10 _ _) h p puts = absurd puts
+has_edges closure (N12 _ _ _) h p puts = absurd puts
+
+no_link : (form : Form) → LeavesGroups form → is_link form ≡ false
+no_link (N1 _ _) h = refl
+no_link (N2 _ _ _) h = refl
+no_link (N3 _ _ _) h = refl
+no_link (N4 _ _ _) h = refl
+no_link (N5 _ _) h = refl
+no_link (N6 _ _ _) h = refl
+no_link (N7 _) h = refl
+no_link (N8 _ _) h = refl
+no_link (N9 _ _ _) h = refl
+no_link (N10 _ _) h = absurd h
+no_link (N12 _ _ _) h = refl
+
+record IsUnjoined (form : Form) : Type 0 where
+  filler : by_filler form ≡ None
+  restricted : by_restricted form ≡ None
+  chain : by_chain form ≡ None
+  end : by_end form ≡ None
+
+unjoined : (closure : Known) (joins : Joins) (form : Form) → LeavesJoins closure joins form → IsUnjoined form
+unjoined closure joins (N1 _ _) h = record { filler = refl; restricted = refl; chain = refl; end = refl }
+unjoined closure joins (N2 _ _ _) h = record { filler = refl; restricted = refl; chain = refl; end = refl }
+unjoined closure joins (N3 _ _ _) h = record { filler = refl; restricted = refl; chain = refl; end = refl }
+unjoined closure joins (N4 _ _ _) h = absurd h
+unjoined closure joins (N5 _ _) h = record { filler = refl; restricted = refl; chain = refl; end = refl }
+unjoined closure joins (N6 _ _ _) h = absurd h
+unjoined closure joins (N7 _) h = record { filler = refl; restricted = refl; chain = refl; end = refl }
+unjoined closure joins (N8 _ _) h = record { filler = refl; restricted = refl; chain = refl; end = refl }
+unjoined closure joins (N9 _ _ _) h = record { filler = refl; restricted = refl; chain = refl; end = refl }
+unjoined closure joins (N10 _ _) h = record { filler = refl; restricted = refl; chain = refl; end = refl }
+unjoined closure joins (N12 _ _ _) h = record { filler = refl; restricted = refl; chain = refl; end = refl }
 
 -- ---- where such forms are added
 
-module _ (forms more : List Form) (closure : Known) (plain : (form : Form) → Contains more form → SaysNothingNew closure form) where
-  closure_still : IsClosureOf forms closure → IsClosureOf (forms ++ more) closure
-  closure_still is = record {
-    same = is.same ∙ sym (filter_still is_property_form forms more (λ form new. (unlisted closure form (plain form new)).property));
-    has = λ form there p puts. ⊎_elim
-        (λ before. is.has form before p puts)
-        (λ new. has_edges closure form (plain form new) p puts)
-        (Contains-append_cases forms more form there);
-  }
+closure_still : (forms more : List Form) (closure : Known) → ((form : Form) → Contains more form → LeavesClosure closure form) → IsClosureOf forms closure → IsClosureOf (forms ++ more) closure
+closure_still forms more closure plain is = record {
+  same = is.same ∙ sym (filter_still is_property_form forms more (λ form new. no_property closure form (plain form new)));
+  has = λ form there p puts. ⊎_elim
+      (λ before. is.has form before p puts)
+      (λ new. has_edges closure form (plain form new) p puts)
+      (Contains-append_cases forms more form there);
+}
 
-  -- no path is new
-  below_before : (p q : PropId2) → IsAtOrBelow (forms ++ more) p q → IsAtOrBelow forms p q
-  below_before p _ same = same
-  below_before p _ (step s t h there) = ⊎_elim
-      (λ before. step s t (below_before p (Property s) h) before)
-      (λ new. absurd (plain (N5 s t) new))
+groups_still : (forms more groups : List Form) → ((form : Form) → Contains more form → LeavesGroups form) → AreGroupsOf forms groups → AreGroupsOf (forms ++ more) groups
+groups_still forms more groups plain of = of ∙ sym (filter_still is_link forms more (λ form new. no_link form (plain form new)))
+
+-- a path of some step ends with a form that names what it leads to
+last_step : (forms : List Form) (p q : PropId2) (s : PropId) → q ≡ Property s → IsAtOrBelow forms p q → (p ≡ q) ⊎ ((r : PropId) × Contains forms (N5 r s))
+last_step forms p _ s e same = inl refl
+last_step forms p _ s e (step r t h there) = inr (r, subst (λ (x : PropId). Contains forms (N5 r x)) (let f : Property t ≡ Property s = e in cc) there)
+
+module _ (forms more : List Form) (closure : Known) (joins : Joins) (plain : (form : Form) → Contains more form → LeavesJoins closure joins form)
+    (is : IsClosureOf forms closure) (within : All (IsPropertyFormOf closure.properties closure.partials) closure.forms) where
+  abbrev IsMasked : PropId2 → Type 0
+  IsMasked (Property r) = HasMask joins r.0
+  IsMasked (Partial n) = ⊥
+
+  -- what a form of properties names the closure has
+  named : (r s : PropId) → Contains forms (N5 r s) → Has closure (Property s)
+  named r s there =
+      let there_too : Contains closure.forms (N5 r s) = subst (λ (list : List Form). Contains list (N5 r s)) (sym is.same) (kept is_property_form forms (N5 r s) there refl) in
+      (All-contains (IsPropertyFormOf closure.properties closure.partials) closure.forms (N5 r s) within there_too).1
+
+  -- no path to a property that is not there begins with one that has a mask
+  none_leads : (p : PropId2) (s t : PropId) → IsMasked p → IsAtOrBelow forms p (Property s) → LeavesJoins closure joins (N5 s t) → ⊥
+  none_leads p s t masked path leaves = ⊎_elim
+      (λ e. leaves.0 (subst IsMasked e masked))
+      (λ w. leaves.1 (named w.0 s w.1))
+      (last_step forms p (Property s) s refl path)
+
+  -- so no path that begins there is new
+  below_before : (p q : PropId2) → IsMasked p → IsAtOrBelow (forms ++ more) p q → IsAtOrBelow forms p q
+  below_before p _ masked same = same
+  below_before p _ masked (step s t h there) = ⊎_elim
+      (λ before. step s t (below_before p (Property s) masked h) before)
+      (λ new. absurd (none_leads p s t masked (below_before p (Property s) masked h) (plain (N5 s t) new)))
       (Contains-append_cases forms more (N5 s t) there)
 
   chain_before : (n : ℕ) (r s t : PropId2) → slice_get (forms ++ more) n ≡ Some (N6 r s t) → slice_get forms n ≡ Some (N6 r s t)
   chain_before n r s t at = ⊎_elim (λ before. before) (λ new. absurd (plain (N6 r s t) new)) (at_front_or_behind forms more n (N6 r s t) at)
 
   by_chain_before : (k : Key) (n : ℕ) → IsUnder by_chain (forms ++ more) k n → IsUnder by_chain forms k n
-  by_chain_before = under_before by_chain forms more (λ form new. (unlisted closure form (plain form new)).chain)
+  by_chain_before = under_before by_chain forms more (λ form new. (unjoined closure joins form (plain form new)).chain)
 
-  seconds_still : (mask : ℕ) (p : PropId2) → HasSeconds forms mask p → HasSeconds (forms ++ more) mask p
-  seconds_still mask p has r below n under q s t at = has r (below_before p r below) n (by_chain_before (property_key r) n under) q s t (chain_before n q s t at)
+  seconds_still : (mask : ℕ) (p : PropId2) → IsMasked p → HasSeconds forms mask p → HasSeconds (forms ++ more) mask p
+  seconds_still mask p masked has r below n under q s t at = has r (below_before p r masked below) n (by_chain_before (property_key r) n under) q s t (chain_before n q s t at)
 
-  ends_still : (mask : ℕ) (p : PropId2) → HasEnds forms mask p → HasEnds (forms ++ more) mask p
-  ends_still mask p has s below n under = has s (below_before p s below) n (under_before by_end forms more (λ form new. (unlisted closure form (plain form new)).end) (property_key s) n under)
+  ends_still : (mask : ℕ) (p : PropId2) → IsMasked p → HasEnds forms mask p → HasEnds (forms ++ more) mask p
+  ends_still mask p masked has s below n under = has s (below_before p s masked below) n (under_before by_end forms more (λ form new. (unjoined closure joins form (plain form new)).end) (property_key s) n under)
 
-  above_still : (mask : ℕ) (p : PropId2) → HasAbove forms mask p → HasAbove (forms ++ more) mask p
-  above_still mask p has r below = has r (below_before p r below)
+  above_still : (mask : ℕ) (p : PropId2) → IsMasked p → HasAbove forms mask p → HasAbove (forms ++ more) mask p
+  above_still mask p masked has r below = has r (below_before p r masked below)
 
   filled_still : (mask : ℕ) (c : Class2) → HasFilled forms mask c → HasFilled (forms ++ more) mask c
   filled_still mask c has = record {
     restrictions = λ n under r a b at. ⊎_elim
-        (λ before. has.restrictions n (under_before by_filler forms more (λ form new. (unlisted closure form (plain form new)).filler) (class_key c) n under) r a b before)
+        (λ before. has.restrictions n (under_before by_filler forms more (λ form new. (unjoined closure joins form (plain form new)).filler) (class_key c) n under) r a b before)
         (λ new. absurd (plain (N4 r a b) new))
         (at_front_or_behind forms more n (N4 r a b) at);
     all = has.all;
   }
 
   restrictions_still : (lists : List (List ℕ)) → AreRestrictions forms lists → AreRestrictions (forms ++ more) lists
-  restrictions_still lists are r = are r ∙ sym (all_still by_restricted forms more (λ form new. (unlisted closure form (plain form new)).restricted) (Whole r))
+  restrictions_still lists are r = are r ∙ sym (all_still by_restricted forms more (λ form new. (unjoined closure joins form (plain form new)).restricted) (Whole r))
 
-  plan_still : (p : PropId2) (plan : List PlannedChain) → IsPlan forms p plan → IsPlan (forms ++ more) p plan
-  plan_still p plan is = record {
-    say = λ c there. at_front forms more c.number (N6 c.first c.second c.whole) (is.say c there);
-    has = λ r below n under. is.has r (below_before p r below) n (by_chain_before (property_key r) n under);
+  plan_still : (p : PropId2) (plan : List PlannedChain) → IsMasked p → IsPlan forms p plan → IsPlan (forms ++ more) p plan
+  plan_still p plan masked of = record {
+    say = λ c there. at_front forms more c.number (N6 c.first c.second c.whole) (of.say c there);
+    has = λ r below n under. of.has r (below_before p r masked below) n (by_chain_before (property_key r) n under);
   }
 
-  summary_still : (summary : Summary) → summary.closure ≡ closure → IsSummaryOf forms summary → IsSummaryOf (forms ++ more) summary
-  summary_still summary is of = record {
-    closure = subst (IsClosureOf (forms ++ more)) (sym is) (closure_still (subst (IsClosureOf forms) is of.closure));
-    groups = of.groups ∙ sym (filter_still is_link forms more (λ form new. (unlisted closure form (plain form new)).link));
-    joins = record {
-      seconds = λ n mask at. seconds_still mask _ (of.joins.seconds n mask at);
-      ends = λ n mask at. ends_still mask _ (of.joins.ends n mask at);
-      above = λ n mask at. above_still mask _ (of.joins.above n mask at);
-      filled = λ n mask at. filled_still mask _ (of.joins.filled n mask at);
-      restrictions = restrictions_still summary.joins.restrictions of.joins.restrictions;
-      plans = λ n plan at. plan_still _ plan (of.joins.plans n plan at);
-    };
+  joins_still : AreJoins forms joins → AreJoins (forms ++ more) joins
+  joins_still of = record {
+    seconds = λ n mask at. seconds_still mask (Property (record { 0 = n })) (inl (slice_get_within joins.seconds.items n mask at)) (of.seconds n mask at);
+    ends = λ n mask at. ends_still mask (Property (record { 0 = n })) (inr (inl (slice_get_within joins.ends.items n mask at))) (of.ends n mask at);
+    above = λ n mask at. above_still mask (Property (record { 0 = n })) (inr (inr (inl (slice_get_within joins.above.items n mask at)))) (of.above n mask at);
+    filled = λ n mask at. filled_still mask _ (of.filled n mask at);
+    restrictions = restrictions_still joins.restrictions of.restrictions;
+    plans = λ n plan at. plan_still (Property (record { 0 = n })) plan (inr (inr (inr (slice_get_within joins.plans n plan at)))) (of.plans n plan at);
   }
 
-kept_by_lists : (old now : List Form) (summary : Summary) → take (length old) now ≡ old → SayNothingNew summary.closure (length old) now → IsSummaryOf old summary → IsSummaryOf now summary
-kept_by_lists old now summary front nothing of = subst (λ (forms : List Form). IsSummaryOf forms summary) all (summary_still old (drop (length old) now) summary.closure plain summary refl of)
-  where
-    all : old ++ drop (length old) now ≡ now
-    all = ap (λ (forms : List Form). forms ++ drop (length old) now) (sym front) ∙ take-append-drop (length old) now
+-- ---- so it is for forms of which the first so many come to that
 
-    plain : (form : Form) → Contains (drop (length old) now) form → SaysNothingNew summary.closure form
-    plain form there =
-        let at = slice_get-from_Contains (drop (length old) now) form there in
-        nothing (length old + at.0) form (omega arith) (sym (slice_get_drop (length old) now at.0) ∙ at.1)
+module _ (forms : List Form) (from : ℕ) where
+  pub closure_kept : (closure : Known) → EachFrom (LeavesClosure closure) from forms → IsClosureOf (take from forms) closure → IsClosureOf forms closure
+  closure_kept closure each is =
+      subst (λ (all : List Form). IsClosureOf all closure) (take-append-drop from forms) (closure_still (take from forms) (drop from forms) closure (added (LeavesClosure closure) from forms each) is)
 
--- so it is for the forms that are there then, and the summary that is taken over
-pub kept : (old now forms : List Form) (from : ℕ) (seen before after : Summary) → take (length old) now ≡ old → forms ≡ now → from ≡ length old → seen ≡ before → after ≡ before → SayNothingNew seen.closure from now → IsSummaryOf old before → IsSummaryOf forms after
-kept old now forms from seen before after front is long same_seen same_after nothing of = rw (is, same_after) (kept_by_lists old now before front (rw (same_seen, long) at nothing) of)
+  pub groups_kept : (groups : List Form) → EachFrom LeavesGroups from forms → AreGroupsOf (take from forms) groups → AreGroupsOf forms groups
+  groups_kept groups each of =
+      subst (λ (all : List Form). AreGroupsOf all groups) (take-append-drop from forms) (groups_still (take from forms) (drop from forms) groups (added LeavesGroups from forms each) of)
+
+  pub joins_kept : (closure : Known) (joins : Joins) → EachFrom (LeavesJoins closure joins) from forms → IsClosureOf (take from forms) closure
+      → All (IsPropertyFormOf closure.properties closure.partials) closure.forms → AreJoins (take from forms) joins → AreJoins forms joins
+  joins_kept closure joins each is within of =
+      subst (λ (all : List Form). AreJoins all joins) (take-append-drop from forms) (joins_still (take from forms) (drop from forms) closure joins (added (LeavesJoins closure joins) from forms each) is within of)
+
+  -- a closure that has grown by the others
+  pub closure_grown : (closure known : Known) (counts : Counts) → IsMore (record { properties = closure.properties; partials = closure.partials }) counts
+      → ((form : Form) → Contains (drop from forms) form → HasNames counts form)
+      → known ≡ record { properties = counts.properties; partials = counts.partials; forms = closure.forms ++ property_forms (drop from forms) }
+      → IsClosureOf (take from forms) closure → IsClosureOf forms known
+  closure_grown closure known counts more names is before = subst (IsClosureOf forms) (sym is) (record {
+    same = ap (λ (front : List Form). front ++ property_forms (drop from forms)) before.same
+        ∙ sym (filter-append is_property_form (take from forms) (drop from forms))
+        ∙ ap property_forms (take-append-drop from forms);
+    has = λ form there p puts. ⊎_elim
+        (λ old. property_stays (record { properties = closure.properties; partials = closure.partials }) counts more p (before.has form old p puts))
+        (λ new. (names form new).edges p puts)
+        (Contains-append_cases (take from forms) (drop from forms) form (subst (λ (all : List Form). Contains all form) (sym (take-append-drop from forms)) there));
+  })

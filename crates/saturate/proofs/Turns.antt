@@ -1,5 +1,5 @@
 -- A number that is queued, and one that is taken from the list.
-use Rattle.std.proofs.Common.{◌≡◌, ℕ, ◌+◌, ◌<◌, ◌≤◌, inl, inr, ⊎_elim, Bool, true, false, true≢false, not, eqb, get_or, if◌then◌else◌, List, [], ◌∷◌, ◌++◌, length, take, drop, slice_get, Option, Some, None, IfNone, IfSome, Contains, refl, sym, ap, ◌∙◌, subst, arith, length-append}
+use Rattle.std.proofs.Common.{◌≡◌, ◌↔◌, ℕ, ◌+◌, ◌<◌, ◌≤◌, inl, inr, ⊎_elim, Bool, true, false, true≢false, not, eqb, get_or, if◌then◌else◌, List, [], ◌∷◌, ◌++◌, length, take, drop, slice_get, Option, Some, None, IfNone, IfSome, Contains, refl, sym, ap, ◌∙◌, subst, arith, length-append}
 use Rattle.std.proofs.lemmas.Bool.Decides.{Decides-eqb, eqb_tells, nat_tests}
 use Rattle.std.proofs.lemmas.Bool.{cases_lt, ne_eqb}
 use Rattle.std.proofs.lemmas.Option.{slice_get_within, slice_get-get_or, get_or_from_slice_get, none-some}
@@ -192,6 +192,10 @@ at_most_as_many xs ys distinct each =
     length-le_from_is_member one_equality xs ys (apart_by_test xs distinct)
     (λ n there. (is_member-Decides Decides-eqb ys n).1 (each n ((is_member-Decides Decides-eqb xs n).0 there)))
 
+-- two lists of the same different numbers are as long
+pub as_many : (xs ys : List ℕ) → AreDistinct xs → AreDistinct ys → ((n : ℕ) → Contains xs n ↔ Contains ys n) → length xs ≡ length ys
+as_many xs ys first second same = omega (arith, at_most_as_many xs ys first (λ n. (same n).0), at_most_as_many ys xs second (λ n. (same n).1))
+
 same_place : (xs : List ℕ) → IsDistinct eqb xs → (m n x : ℕ) → m < n → slice_get xs m ≡ Some x → slice_get xs n ≡ Some x → ⊥
 same_place xs distinct m n x low a b =
     let apart = apart_from_distinct eqb xs m n x distinct low (slice_get_within xs n x b) in
@@ -231,7 +235,7 @@ moved {taken = taken} moves served_now q p low = record {
   low = low;
 }
 
-not_not : (b : Bool) → b ≡ not (not b)
+pub not_not : (b : Bool) → b ≡ not (not b)
 not_not true = refl
 not_not false = refl
 
@@ -242,11 +246,6 @@ parted flags served taken =
     let front : List ℕ = take served taken in
     subst (λ (xs : List ℕ). IsPermutation xs (kept flags front ++ asked flags front ++ drop served taken)) all
     (IsPermutation-append_left (drop served taken) front (kept flags front ++ asked flags front) (IsPermutation-filter_both (is_kept flags) (is_flagged flags) (λ x. not_not (is_flagged flags x)) front))
-
-pub turned_back : {waiting : List Item} {queued served : ℕ} {taken : List ℕ} (flags : List Bool) → IsQueue waiting queued taken served → IsQueue waiting queued (kept flags (take served taken) ++ asked flags (take served taken) ++ drop served taken) (length (kept flags (take served taken)))
-turned_back {served = served} {taken = taken} flags q =
-    let front : List ℕ = take served taken in
-    moved _ (length (kept flags front)) q (parted flags served taken) (omega (arith, length-append (kept flags front ++ asked flags front) (drop served taken), length-append (kept flags front) (asked flags front)))
 
 pub front_kept : (flags : List Bool) (served : ℕ) (taken : List ℕ) → take (length (kept flags (take served taken))) (kept flags (take served taken) ++ asked flags (take served taken) ++ drop served taken) ≡ kept flags (take served taken)
 front_kept flags served taken =
@@ -259,17 +258,24 @@ front_kept flags served taken =
 pub still_long : (flags : List Bool) (served : ℕ) (taken : List ℕ) → length (kept flags (take served taken) ++ asked flags (take served taken) ++ drop served taken) ≡ length taken
 still_long flags served taken = length_permutation taken _ (parted flags served taken)
 
-still_there : (xs ys : List ℕ) (n x : ℕ) → slice_get xs n ≡ Some x → slice_get (xs ++ ys) n ≡ Some x
+pub still_there : (xs ys : List ℕ) (n x : ℕ) → slice_get xs n ≡ Some x → slice_get (xs ++ ys) n ≡ Some x
 still_there xs ys n x at =
     let low : n < length xs = slice_get_within xs n x at in
     slice_get-get_or (xs ++ ys) n x (omega (arith, low, length-append xs ys)) ∙ ap Some (get_or_append_left xs ys x n low ∙ get_or_from_slice_get xs n x x at)
 
-asked_distinct : (flags : List Bool) (xs : List ℕ) → AreDistinct xs → AreDistinct (asked flags xs)
+pub asked_distinct : (flags : List Bool) (xs : List ℕ) → AreDistinct xs → AreDistinct (asked flags xs)
 asked_distinct flags xs distinct m n x a b =
     let moves : List ℕ = asked flags xs ++ kept flags xs in
     distinct_moved xs moves (IsPermutation-filter_both (is_flagged flags) (is_kept flags) (λ _. refl) xs) distinct m n x
     (still_there (asked flags xs) (kept flags xs) m x a)
     (still_there (asked flags xs) (kept flags xs) n x b)
+
+pub kept_distinct : (flags : List Bool) (xs : List ℕ) → AreDistinct xs → AreDistinct (kept flags xs)
+kept_distinct flags xs distinct m n x a b =
+    let moves : List ℕ = kept flags xs ++ asked flags xs in
+    distinct_moved xs moves (IsPermutation-filter_both (is_kept flags) (is_flagged flags) (λ i. not_not (is_flagged flags i)) xs) distinct m n x
+    (still_there (kept flags xs) (asked flags xs) m x a)
+    (still_there (kept flags xs) (asked flags xs) n x b)
 
 -- of different numbers no more are flagged than flags were given
 pub few_asked : (flags : List Bool) (numbers xs : List ℕ) → AreThoseFlagged flags numbers → AreDistinct xs → length (asked flags xs) ≤ length numbers

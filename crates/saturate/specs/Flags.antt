@@ -1,5 +1,5 @@
 -- Numbers that are flagged.
-use Rattle.std.specs.Prelude.{◌≡◌, ◌≢◌, ◌↔◌, ℕ, Bool, true, false, not, List, [], ◌∷◌, ◌++◌, slice_index_or, Option, Some}
+use Rattle.std.specs.Prelude.{◌≡◌, ◌≢◌, ◌↔◌, ◌⊎◌, ℕ, Bool, true, false, not, List, [], ◌∷◌, ◌++◌, slice_index_or, Option, Some}
 use Rattle.std.specs.List.{Contains, filter}
 use Rattle.facts.specs.declared.contexts.Fact.{Fact}
 use Rattle.facts.specs.Closure.{Problem}
@@ -27,6 +27,10 @@ asked flags numbers = filter (is_flagged flags) numbers
 -- the numbers are those that are flagged
 abbrev pub AreThoseFlagged : List Bool → List ℕ → Type 0
 AreThoseFlagged flags numbers = (n : ℕ) → (is_flagged flags n ≡ true) ↔ Contains numbers n
+
+-- the numbers that were flagged are, and those that are such
+pub record AreFlaggedToo (P : ℕ → Type 0) (old new : List Bool) : Type 0 where
+  pub each : (n : ℕ) → (is_flagged new n ≡ true) ↔ ((is_flagged old n ≡ true) ⊎ P n)
 
 -- that number is flagged, and each other as it was
 pub record HasOneFlagMore (n : ℕ) (old new : List Bool) : Type 0 where

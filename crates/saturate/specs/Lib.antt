@@ -12,3 +12,4 @@ pub mod Counts
 pub mod Summaries
 pub mod FinishedStates
 pub mod FormKeys
+pub mod Settling

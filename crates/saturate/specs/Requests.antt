@@ -1,8 +1,9 @@
 -- Which facts forms and lists of disjoint classes that are added ask for: what they give with others has to be drawn again.
-use Rattle.std.specs.Prelude.{◌≡◌, ◌⊎◌, ◌↔◌, ◌<◌, ◌≤◌, ℕ, Bool, true, List, length, slice_get, Some}
+use Rattle.std.specs.Prelude.{◌≡◌, ◌⊎◌, ◌↔◌, ◌<◌, ℕ, Bool, true, List, [], length, slice_get, Some}
 use Rattle.std.specs.List.{Contains}
 use Rattle.axioms.specs.declared.ids.ExprId.{ExprId}
 use Rattle.axioms.specs.declared.ids.IndId.{IndId}
+use Rattle.normal_forms.specs.declared.apart.ApartLists.{ApartLists}
 use Rattle.normal_forms.specs.declared.forms.Form.{Form}
 use Rattle.normal_forms.specs.declared.forms.Form.TheVariants.{N1, N2, N3, N4, N5, N6, N7, N10, N12}
 use Rattle.normal_forms.specs.declared.forms.Class2.{Class2}
@@ -78,17 +79,19 @@ AsksNothing form = (forms : List Form) (f : Fact) → ¬ Asks forms form f
 abbrev pub AsksForNoEdge : Form → Type 0
 AsksForNoEdge form = (forms : List Form) (x : Context) (p : PropId2) (y : Context) → ¬ Asks forms form (Edge x p y)
 
--- the class is an expression whose number is not below that
-abbrev pub IsLater : ℕ → Class2 → Type 0
-IsLater end a = (e : ExprId) × (a ≡ Expr e) × (end ≤ e.0)
+-- the fact puts something into the class
+abbrev pub IsOfClass : Class2 → Fact → Type 0
+IsOfClass a (In b x) = b ≡ a
+IsOfClass a (Edge x p y) = ⊥
 
--- the fact puts something into such a class
-abbrev pub IsInLater : ℕ → Fact → Type 0
-IsInLater end f = (a : Class2) × (x : Context) × (f ≡ In a x) × IsLater end a
+-- it puts something into a class that the form names
+abbrev pub IsOfNamed : Form → Fact → Type 0
+IsOfNamed form (In a x) = NamesClass form a
+IsOfNamed form (Edge x p y) = ⊥
 
 -- the form asks for such facts alone
-abbrev pub AsksForLater : ℕ → Form → Type 0
-AsksForLater end form = (forms : List Form) (f : Fact) → Asks forms form f → IsInLater end f
+abbrev pub AsksByClass : Form → Type 0
+AsksByClass form = (forms : List Form) (f : Fact) → Asks forms form f → IsOfNamed form f
 
 -- none of the forms asks for an edge
 abbrev pub LeaveEdges : List Form → Type 0
@@ -108,6 +111,10 @@ IsNew before now x = Contains now x × ¬ Contains before x
 abbrev pub HasForm : (Form → Type 0) → List Form → Type 0
 HasForm P forms = (form : Form) × Contains forms form × P form
 
+-- the fact puts something into a class that one of the forms names
+abbrev pub IsOfNamedClass : List Form → Fact → Type 0
+IsOfNamedClass forms f = HasForm (λ form. IsOfNamed form f) forms
+
 -- one of the forms names the class, or one of the lists has it
 abbrev pub IsNamed : Problem → Class2 → Type 0
 IsNamed added a = HasForm (λ form. NamesClass form a) added.forms ⊎ IsInList added a
@@ -123,6 +130,10 @@ IsAskedByForm all forms f = HasForm (λ form. Asks all form f) forms
 -- one of the lists asks for the fact
 abbrev pub IsAskedByList : List (List ExprId) → Fact → Type 0
 IsAskedByList lists f = (cs : List ExprId) × Contains lists cs × ListAsks cs f
+
+-- the problem of forms and lists, with no contexts
+abbrev pub problem_of : List Form → ApartLists → Problem
+problem_of forms apart = record { forms = forms; apart = apart; roots = [] }
 
 -- one of the added forms asks for the fact, by all forms, or one of the added lists does
 abbrev pub IsAsked : List Form → Problem → Fact → Type 0

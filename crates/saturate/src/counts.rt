@@ -1,9 +1,10 @@
 //! How many properties and prefixes of chains forms name.
 ghost use Rattle.saturate.specs.Counts.{HasNames, HasProperty, IsMore, IsSmall};
 ghost use Rattle.normal_forms.specs.declared.forms.Form.{Form as Form2};
-ghost use Rattle.std.specs.Prelude.{Contains};
+ghost use Rattle.std.specs.Prelude.{◌≡◌, Contains};
 
 use normal_forms::{Form, FormList, PropId2};
+use property_closure::PropertyClosure;
 
 /// A number of properties and one of prefixes of chains.
 #[derive(Clone, Copy)]
@@ -13,6 +14,28 @@ pub(crate) struct Counts {
 }
 
 impl Counts {
+    /// None.
+    pub(crate) fn none() -> Counts
+        ensures small { IsSmall result }
+    {
+        Counts {
+            properties: 0,
+            partials: 0,
+        }
+    }
+
+    /// Those that the closure has.
+    pub(crate) fn of(closure: &PropertyClosure) -> Counts
+        ensures small { IsSmall result }
+        ensures properties { result.properties ≡ closure.now.properties }
+        ensures partials { result.partials ≡ closure.now.partials }
+    {
+        Counts {
+            properties: closure.properties(),
+            partials: closure.partials(),
+        }
+    }
+
     /// So many that the property is among them.
     fn with_property(self, property: PropId2) -> Counts
         requires { IsSmall self }
@@ -52,15 +75,14 @@ impl Counts {
     }
 }
 
-/// So many that what the forms name is among them.
-pub(crate) fn counted(forms: &FormList) -> Counts
+/// So many more that what the forms name is among them.
+pub(crate) fn counted(before: Counts, forms: &FormList) -> Counts
+    requires { IsSmall before }
     ensures small { IsSmall result }
+    ensures more { IsMore before result }
     ensures has { (form : Form2) → Contains forms.now form → HasNames result form }
 {
-    let mut counts = Counts {
-        properties: 0,
-        partials: 0,
-    };
+    let mut counts = before;
     for number in 0..forms.len() {
         counts = counts.with_form(&forms.at(number));
     }

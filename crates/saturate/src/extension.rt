@@ -2,21 +2,20 @@
 ghost use Rattle.saturate.specs.IndexedFacts.{ListsFacts, ListsServed};
 ghost use Rattle.inference.specs.Derivations.{IsDerived};
 ghost use Rattle.normal_forms.specs.Apart.{AreContinuedBy};
-ghost use Rattle.normal_forms.specs.Properties.{is_property_form};
 ghost use Rattle.saturate.specs.Flags.{IsFlagged, ListsServedStill, ListsThoseKept, ListsUnlessFlagged, kept};
 ghost use Rattle.saturate.specs.GoingOn.{GoOn, HasEntered, HaveTurns, IsBegun, Stay};
-ghost use Rattle.saturate.specs.Growth.{IsGrownFrom, KeepsServed, LeaveProperties};
-ghost use Rattle.saturate.specs.Requests.{IsAsked, IsAskedAnew};
+ghost use Rattle.saturate.specs.Growth.{EachFrom, IsGrownFrom, KeepsServed, LeavesEntries, LeavesLists};
+ghost use Rattle.saturate.specs.Requests.{IsAsked, IsAskedAnew, problem_of};
 ghost use Rattle.saturate.specs.Turns.{option_list};
 ghost use Rattle.inference.specs.Completeness.{AreEntered, IsCompleteUpToRedundancy};
 ghost use Rattle.inference.specs.Draws.{Draws};
-ghost use Rattle.std.specs.Prelude.{◌≡◌, ◌<◌, ◌≤◌, ◌++◌, ℕ, Contains, List, IfOk, OnErr, OnOk, Some, length, take, true};
+ghost use Rattle.std.specs.Prelude.{◌≡◌, ◌↔◌, ◌<◌, ◌≤◌, ◌++◌, ℕ, None, Contains, List, IfOk, IsTrue, OnErr, OnOk, Some, length, take};
 
 use crate::additions::{asks_for, may_ask_for_some_edges};
 use crate::flags::Flags;
 use crate::ground::Ground;
-use crate::later_classes::ask_for_later_classes;
 use crate::named_classes::named_classes;
+use crate::named_facts::{ask_by_class, flags_of_named, sought};
 use crate::new_forms::new_forms;
 use crate::new_lists::new_lists;
 use crate::queue::Queue;
@@ -24,12 +23,15 @@ use axioms::Memory;
 use facts::Fact;
 use indexes::{Index, IndexedProblem};
 use inference::{KnownFacts, Rules, Stop, is_filler, is_second_premise};
-use normal_forms::{Form, FormList};
+use normal_forms::{ApartLists, Form, FormList};
 use std::alloc::Global;
 use work_list::WorkList;
 
-/// Of each fact whether one of the added forms or lists asks for it.
-fn flagged(
+/// For how many classes the facts of each are sought, rather than each fact looked at. It decides nothing.
+const FEW_CLASSES: usize = 16;
+
+/// Of each fact whether one of the added forms or lists asks for it, by a look at each.
+fn looked_at_each(
     alloc: Global,
     ground: &Ground,
     added: &IndexedProblem,
@@ -39,9 +41,6 @@ fn flagged(
     ensures few { IfOk result (λ flags. length flags ≤ length facts.now.facts) }
     ensures flags { IfOk result (λ flags. (n : ℕ) → n < length facts.now.facts → IsFlagged (IsAsked ground.now.forms added.now) facts.now.facts flags n) }
 {
-    if ask_for_later_classes(added, facts.classes_end()) {
-        return Flags::new(alloc, 0);
-    }
     let closure = ground.closure();
     let end = expected_contexts(ground.problem()).min(u32::MAX as usize) as u32;
     let classes = named_classes(alloc, added, end)?;
@@ -55,31 +54,49 @@ fn flagged(
     Ok(flags)
 }
 
+/// Of each fact whether one of the added forms or lists asks for it.
+fn flagged(
+    alloc: Global,
+    ground: &Ground,
+    forms: FormList,
+    apart: ApartLists,
+    facts: &KnownFacts,
+) -> Result<Flags, Memory>
+    requires { IsDerived ground.now facts.now }
+    ensures few { IfOk result (λ flags. length flags ≤ length facts.now.facts) }
+    ensures flags { IfOk result (λ flags. (n : ℕ) → n < length facts.now.facts → IsFlagged (IsAsked ground.now.forms (problem_of forms apart)) facts.now.facts flags n) }
+{
+    if ask_by_class(&forms, &apart) && sought(&forms, facts) <= FEW_CLASSES {
+        return flags_of_named(alloc, &forms, facts);
+    }
+    let added = IndexedProblem::new(alloc, forms, apart, Vec::new(alloc))?;
+    let flags = looked_at_each(alloc, ground, &added, facts);
+    drop(added);
+    flags
+}
+
 /// Of the facts that are served whether a new one of the forms from that number on, or a new list, asks for them.
-fn flags_of(
+fn flags_of<W: WorkList>(
     alloc: Global,
     earlier: &IndexedProblem,
     ground: &Ground,
     from: usize,
     facts: &KnownFacts,
-    served: &[u32],
+    queue: &Queue<W>,
 ) -> Result<Flags, Memory>
     requires earlier { take from ground.now.forms ≡ earlier.now.forms }
     requires lists { AreContinuedBy earlier.now.apart ground.now.apart }
     requires derived { IsDerived ground.now facts.now }
-    requires served { (n : ℕ) → Contains served.now n → n < length facts.now.facts }
+    requires served { (n : ℕ) → Contains queue.now.served n → n < length facts.now.facts }
     ensures few { IfOk result (λ flags. length flags ≤ length facts.now.facts) }
-    ensures flags { IfOk result (λ flags. (n : ℕ) → Contains served.now n → IsFlagged (IsAskedAnew earlier.now ground.now) facts.now.facts flags n) }
+    ensures flags { IfOk result (λ flags. (n : ℕ) → Contains queue.now.served n → IsFlagged (IsAskedAnew earlier.now ground.now) facts.now.facts flags n) }
 {
-    if served.is_empty() {
+    if queue.served() == 0 {
         return Flags::new(alloc, 0);
     }
     let forms = new_forms(alloc, earlier, ground.problem().forms(), from)?;
     let apart = new_lists(alloc, earlier.apart(), ground.problem().apart())?;
-    let added = IndexedProblem::new(alloc, forms, apart, Vec::new(alloc))?;
-    let flags = flagged(alloc, ground, &added, facts);
-    drop(added);
-    flags
+    flagged(alloc, ground, forms, apart, facts)
 }
 
 /// Lists the fact of that number, unless it is flagged.
@@ -207,15 +224,19 @@ fn listed_anew<W: WorkList>(
     queue: &mut Queue<W>,
     index: &mut Index,
     flags: &Flags,
+    entered: Option<usize>,
 ) -> Result<(), Memory>
     requires derived { IsDerived ground.now facts.old }
     requires turns { HaveTurns facts.old.facts queue.old }
+    requires entered { (many : ℕ) → entered ≡ Some many → HasEntered ground.now many queue.old.served facts.old }
     ensures goes_on { OnOk result (GoOn ground.now u32.MAX facts.old facts.new queue.old queue.new index.new) }
     ensures served { OnOk result (queue.new.served ≡ kept flags.now queue.old.served) }
     ensures err { OnErr result (Stay facts.old facts.new queue.old queue.new index.old index.new) }
 {
-    let again = indexed(alloc, ground, facts, queue.numbers(), flags)?;
-    match begun_again(alloc, ground, facts, queue, flags, None) {
+    let served = queue.numbers(alloc)?;
+    let again = indexed(alloc, ground, facts, &served, flags)?;
+    drop(served);
+    match begun_again(alloc, ground, facts, queue, flags, entered) {
         Ok(()) => {
             *index = again;
             Ok(())
@@ -227,23 +248,55 @@ fn listed_anew<W: WorkList>(
     }
 }
 
-/// Whether the form is of properties alone.
-fn is_of_properties(form: Form) -> bool
-    ensures { result ≡ is_property_form form }
+/// Whether the form is no chain.
+fn leaves_lists(form: Form) -> bool
+    ensures { IsTrue result ↔ LeavesLists form }
 {
-    matches!(form, Form::N5(..) | Form::N6(..) | Form::N7(..))
+    !matches!(form, Form::N6(..))
 }
 
-/// Whether none of the forms from that number on is of properties alone.
-fn leave_properties(forms: &FormList, from: usize) -> bool
-    ensures { result ≡ true → LeaveProperties from forms.now }
+/// Whether none of the forms from that number on is a chain.
+fn leave_lists(forms: &FormList, from: usize) -> bool
+    ensures { IsTrue result ↔ EachFrom LeavesLists from forms.now }
 {
     for number in from..forms.len() {
-        if is_of_properties(forms.at(number)) {
+        if !leaves_lists(forms.at(number)) {
             return false;
         }
     }
     true
+}
+
+/// Whether the form makes no property reflexive.
+fn leaves_entries(form: Form) -> bool
+    ensures { IsTrue result ↔ LeavesEntries form }
+{
+    !matches!(form, Form::N7(..))
+}
+
+/// Whether none of the forms from that number on makes a property reflexive.
+fn leave_entries(forms: &FormList, from: usize) -> bool
+    ensures { IsTrue result ↔ EachFrom LeavesEntries from forms.now }
+{
+    for number in from..forms.len() {
+        if !leaves_entries(forms.at(number)) {
+            return false;
+        }
+    }
+    true
+}
+
+/// How many roots need not enter again: the earlier ones, where none of the forms from that number on makes a property reflexive; else
+/// each root enters again.
+fn entered_roots(earlier: &IndexedProblem, forms: &FormList, from: usize) -> Option<usize>
+    ensures some { (many : ℕ) → result ≡ Some many → (many ≡ length earlier.now.roots) × EachFrom LeavesEntries from forms.now }
+    ensures none { result ≡ None → ¬ EachFrom LeavesEntries from forms.now }
+{
+    if leave_entries(forms, from) {
+        Some(earlier.roots().len())
+    } else {
+        None
+    }
 }
 
 /// How many numbers stand in the lists of the contexts of a fact. It decides nothing.
@@ -302,25 +355,25 @@ fn listed_still<W: WorkList>(
     queue: &mut Queue<W>,
     index: &mut Index,
     flags: &Flags,
-    entered: usize,
+    entered: Option<usize>,
 ) -> Result<(), Memory>
     requires derived { IsDerived ground.now facts.old }
     requires turns { HaveTurns facts.old.facts queue.old }
     requires flags { length flags.now ≤ length facts.old.facts }
-    requires entered { HasEntered ground.now entered queue.old.served facts.old }
+    requires entered { (many : ℕ) → entered ≡ Some many → HasEntered ground.now many queue.old.served facts.old }
     requires listed { ListsFacts ground.now facts.old (kept flags.now queue.old.served) (queue.old.served ++ option_list queue.old.hand) index.old }
     ensures goes_on { OnOk result (GoOn ground.now u32.MAX facts.old facts.new queue.old queue.new index.new) }
     ensures served { OnOk result (queue.new.served ≡ kept flags.now queue.old.served) }
     ensures err { OnErr result (Stay facts.old facts.new queue.old queue.new index.old index.new) }
 {
     let hand = queue.hand();
-    begun_again(alloc, ground, facts, queue, flags, Some(entered))?;
+    begun_again(alloc, ground, facts, queue, flags, entered)?;
     remove_pending(index, facts, flags, hand);
     Ok(())
 }
 
-/// Goes on from more roots, more lists of what is apart, and more forms, from that number on. The index lists the served facts; where no added form is one of
-/// properties, and few numbers stand beside those of facts that are pending again, it is not made anew. Changes nothing where memory is
+/// Goes on from more roots, more lists of what is apart, and more forms, from that number on. The index lists the served facts; where no added form is a
+/// chain, and few numbers stand beside those of facts that are pending again, it is not made anew. Changes nothing where memory is
 /// refused.
 pub(crate) fn carry_on<W: WorkList>(
     alloc: Global,
@@ -341,12 +394,13 @@ pub(crate) fn carry_on<W: WorkList>(
     ensures served { OnOk result (KeepsServed earlier.now ground.now facts.old.facts queue.old.served queue.new.served) }
     ensures err { OnErr result (Stay facts.old facts.new queue.old queue.new index.old index.new) }
 {
-    let flags = flags_of(alloc, earlier, ground, from, facts, queue.numbers())?;
+    let flags = flags_of(alloc, earlier, ground, from, facts, queue)?;
     let few = queue.served().saturating_mul(LOOKS_FOR_A_FACT);
-    let leaves = leave_properties(ground.problem().forms(), from);
+    let all = ground.problem().forms();
+    let entered = entered_roots(earlier, all, from);
+    let leaves = leave_lists(all, from);
     if leaves && looked_at(index, facts, &flags) < few {
-        let entered = earlier.roots().len();
         return listed_still(alloc, ground, facts, queue, index, &flags, entered);
     }
-    listed_anew(alloc, ground, facts, queue, index, &flags)
+    listed_anew(alloc, ground, facts, queue, index, &flags, entered)
 }

@@ -1,10 +1,10 @@
 //! What is left of a state that has run to its end.
-ghost use Rattle.std.specs.Prelude.{◌≡◌, map};
-ghost use Rattle.facts.specs.Births.{reason};
+ghost use Rattle.std.specs.Prelude.{◌≡◌};
 ghost use Rattle.saturate.specs.FinishedStates.{IsEnded};
 
 use crate::ground::Ground;
-use facts::{Birth, StoredFact};
+use facts::StoredFact;
+use inference::BirthList;
 use std::marker::Model;
 
 /// The facts of a state that has run to its end, with what gave them. What only a run needs, to find facts and to know whose turn it
@@ -13,20 +13,18 @@ use std::marker::Model;
 pub struct Finished {
     pub(crate) ground: Ground,
     pub(crate) facts: Vec<StoredFact>,
-    pub(crate) births: Vec<Birth>,
+    pub(crate) births: BirthList,
 }
 
 impl Model for Finished {
-    ghost use Rattle.std.specs.Prelude.{map};
-    ghost use Rattle.facts.specs.Births.{reason};
     ghost use Rattle.saturate.specs.State.{Ended};
     ghost use Rattle.saturate.specs.FinishedStates.{IsEnded};
 
     ghost Value = { Ended };
 
-    ghost view = { λ f. record { problem = f.ground; facts = f.facts.items; births = map reason f.births.items } };
+    ghost view = { λ f. record { problem = f.ground; facts = f.facts.items; births = f.births.reasons } };
 
-    ghost invariant = { λ f. IsEnded (record { problem = f.ground; facts = f.facts.items; births = map reason f.births.items }) };
+    ghost invariant = { λ f. IsEnded (record { problem = f.ground; facts = f.facts.items; births = f.births.reasons }) };
 }
 
 impl Finished {
@@ -45,8 +43,8 @@ impl Finished {
     }
 
     /// What gave the facts, in their order.
-    pub fn births(&self) -> &[Birth]
-        ensures { map reason result.now ≡ self.now.births }
+    pub fn births(&self) -> &BirthList
+        ensures { result.now.reasons ≡ self.now.births }
     {
         &self.births
     }

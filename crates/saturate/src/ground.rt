@@ -5,7 +5,7 @@ ghost use Rattle.inference.specs.Joins.{AreJoins};
 ghost use Rattle.normal_forms.specs.Apart.{no_lists};
 ghost use Rattle.std.specs.Prelude.{◌≡◌, ◌++◌, [], IfOk, length, take};
 
-use crate::summary::{Summary, say_nothing_new};
+use crate::summary::Summary;
 use axioms::Memory;
 use facts::Context;
 use indexes::{Groups, IndexedProblem};
@@ -14,14 +14,13 @@ use normal_forms::{ApartLists, FormList};
 use property_closure::PropertyClosure;
 use std::alloc::Global;
 use std::marker::Model;
-use std::rc::Rc;
 
 /// Normal forms, lists of what is apart and the contexts that are there from the start, with what the forms say of properties, which
-/// individuals they make one, and which edges their chains join. Grounds whose forms come to the same may have that in the same memory.
+/// individuals they make one, and which edges their chains join. Of these three grounds have in the same memory what is the same.
 #[derive(Drop)]
 pub struct Ground {
     problem: IndexedProblem,
-    summary: Rc<Summary>,
+    summary: Summary,
 }
 
 impl Model for Ground {
@@ -32,7 +31,7 @@ impl Model for Ground {
 
     ghost view = { λ g. g.problem };
 
-    ghost invariant = { λ g. IsSummaryOf g.problem.forms g.summary.value };
+    ghost invariant = { λ g. IsSummaryOf g.problem.forms g.summary };
 }
 
 impl Ground {
@@ -42,13 +41,18 @@ impl Ground {
         ensures apart { IfOk result (λ g. g.apart ≡ no_lists) }
         ensures roots { IfOk result (λ g. g.roots ≡ []) }
     {
-        let problem = IndexedProblem::empty(alloc);
-        let summary = Rc::new(alloc, Summary::of(alloc, &problem)?)?;
+        let problem = IndexedProblem::new(
+            alloc,
+            FormList::new(alloc),
+            ApartLists::new(alloc),
+            Vec::new(alloc),
+        )?;
+        let summary = Summary::of(alloc, &problem)?;
         Ok(Ground { problem, summary })
     }
 
-    /// These forms, which begin with its own, and lists, and the same contexts with those that are added. Where the added forms say
-    /// nothing new, what all come to is in the same memory.
+    /// These forms, which begin with its own, and lists, and the same contexts with those that are added. What the added forms say
+    /// nothing new of is in the same memory.
     pub(crate) fn continued(
         &self,
         alloc: Global,
@@ -63,12 +67,7 @@ impl Ground {
     {
         let from = self.problem.forms().len();
         let problem = self.problem.continued(forms, apart, roots)?;
-        let closure = &self.summary.as_ref().closure;
-        let summary = if say_nothing_new(closure, forms, from) {
-            self.summary.clone()?
-        } else {
-            Rc::new(alloc, Summary::of(alloc, &problem)?)?
-        };
+        let summary = self.summary.continued(alloc, &problem, from)?;
         Ok(Ground { problem, summary })
     }
 
@@ -83,20 +82,20 @@ impl Ground {
     pub fn closure(&self) -> &PropertyClosure
         ensures { IsClosureOf self.now.forms result.now }
     {
-        &self.summary.as_ref().closure
+        self.summary.closure.as_ref()
     }
 
     /// Which individuals the forms make one.
     pub fn groups(&self) -> &Groups
         ensures { AreGroupsOf self.now.forms result.now }
     {
-        &self.summary.as_ref().groups
+        self.summary.groups.as_ref()
     }
 
     /// Which edges the chains join.
     pub(crate) fn joins(&self) -> &Joins
         ensures { AreJoins self.now.forms result.now }
     {
-        &self.summary.as_ref().joins
+        self.summary.joins.as_ref()
     }
 }

@@ -9,14 +9,15 @@ mod finished;
 mod flags;
 mod form_keys;
 mod ground;
-mod later_classes;
 mod laws;
 mod listed_facts;
 mod named_classes;
+mod named_facts;
 mod new_forms;
 mod new_lists;
 mod order;
 mod queue;
+mod settled;
 mod state;
 mod summary;
 

@@ -5,31 +5,34 @@ ghost use Rattle.saturate.specs.Turns.{option_list, AreAmong, HasOneMore, HasTur
 
 use crate::flags::Flags;
 use crate::order::{context_of, next};
+use crate::settled::Settled;
 use axioms::Memory;
 use facts::StoredFact;
 use std::alloc::Global;
 use std::marker::Model;
+use std::mem;
 use work_list::{Item, WorkList};
 
-/// Numbers from 0 on, each of which has one turn: some wait in a list of work, and some were taken, of which the first are served and
-/// the next is in hand.
+/// Numbers from 0 on, each of which has one turn: some wait in a list of work, some are served and settled, in a list that copies share,
+/// and some were taken, of which the first are served, behind those that are settled, and the next is in hand.
 #[derive(Drop)]
 pub(crate) struct Queue<W: WorkList> {
     list: W,
     queued: u32,
+    settled: Settled,
     taken: Vec<u32>,
     served: usize,
 }
 
 impl<W: WorkList> Model for Queue<W> {
-    ghost use Rattle.std.specs.Prelude.{take, slice_get};
+    ghost use Rattle.std.specs.Prelude.{◌+◌, ◌++◌, length, take, slice_get};
     ghost use Rattle.saturate.specs.Turns.{Queued, IsQueue};
 
     ghost Value = { Queued };
 
-    ghost view = { λ q. record { queued = q.queued; waiting = W.pending q.list; served = take q.served q.taken.items; hand = slice_get q.taken.items q.served } };
+    ghost view = { λ q. record { queued = q.queued; waiting = W.pending q.list; served = q.settled ++ take q.served q.taken.items; hand = slice_get q.taken.items q.served } };
 
-    ghost invariant = { λ q. IsQueue (W.pending q.list) q.queued q.taken.items q.served };
+    ghost invariant = { λ q. IsQueue (W.pending q.list) q.queued (q.settled ++ q.taken.items) (length q.settled + q.served) };
 }
 
 /// Moves those of the first numbers that are not flagged to the front, in their order, and adds those that are to the list, which is
@@ -92,22 +95,27 @@ fn copied(numbers: &Vec<u32>) -> Result<Vec<u32>, Memory>
 
 impl<W: WorkList> Queue<W> {
     /// Nothing has had its turn.
-    pub(crate) fn new(alloc: Global, list: W) -> Self
+    pub(crate) fn new(alloc: Global, list: W) -> Result<Self, Memory>
+    where
+        W: Drop,
         requires { W.pending list ≡ [] }
-        ensures queued { result.queued ≡ 0 }
-        ensures waiting { result.waiting ≡ [] }
-        ensures served { result.served ≡ [] }
-        ensures hand { result.hand ≡ None }
+        ensures queued { IfOk result (λ q. q.queued ≡ 0) }
+        ensures waiting { IfOk result (λ q. q.waiting ≡ []) }
+        ensures served { IfOk result (λ q. q.served ≡ []) }
+        ensures hand { IfOk result (λ q. q.hand ≡ None) }
     {
-        Queue {
+        let settled = Settled::new(alloc)?;
+        Ok(Queue {
             list,
             queued: 0,
+            settled,
             taken: Vec::new(alloc),
             served: 0,
-        }
+        })
     }
 
-    /// The same turns, over a list of work that is empty, as this one's is: as many numbers were served as were queued.
+    /// The same turns, over a list of work that is empty, as this one's is: as many numbers were served as were queued. Numbers that are
+    /// settled are not copied.
     pub(crate) fn copy(&self, list: W) -> Result<Queue<W>, Memory>
     where
         W: Drop,
@@ -115,18 +123,15 @@ impl<W: WorkList> Queue<W> {
         requires finished { self.now.queued ≤ length self.now.served }
         ensures { IfOk result (λ q. q ≡ self.now) }
     {
-        match copied(&self.taken) {
-            Ok(taken) => Ok(Queue {
-                list,
-                queued: self.queued,
-                taken,
-                served: self.served,
-            }),
-            Err(error) => {
-                drop(list);
-                Err(error)
-            }
-        }
+        let settled = self.settled.copy(*self.taken.allocator())?;
+        let taken = copied(&self.taken)?;
+        Ok(Queue {
+            list,
+            queued: self.queued,
+            settled,
+            taken,
+            served: self.served,
+        })
     }
 
     /// How many numbers were queued.
@@ -160,7 +165,8 @@ impl<W: WorkList> Queue<W> {
         ensures value { result ≡ length self.now.served }
         ensures few { result ≤ self.now.queued }
     {
-        self.served
+        let _queued = self.queued;
+        self.settled.len() + self.served
     }
 
     /// No number was served twice; and where as many were served as were queued, each of them was.
@@ -256,7 +262,11 @@ impl<W: WorkList> Queue<W> {
         }
         self.fill(facts)?;
         self.take(facts)?;
-        Ok(self.hand())
+        let hand = self.hand();
+        if hand.is_none() {
+            self.settle();
+        }
+        Ok(hand)
     }
 
     /// The number in hand is served.
@@ -269,11 +279,30 @@ impl<W: WorkList> Queue<W> {
         self.served += 1;
     }
 
-    /// The numbers that were served, in order.
-    pub(crate) fn numbers(&self) -> &[u32]
-        ensures { result.now ≡ self.now.served }
+    /// Where every number that was queued is served, and more of them were taken than are settled, all are settled, in their order. That
+    /// changes nothing but what a copy and `unserve` take. Nothing is settled where memory is refused.
+    fn settle(&mut self)
+        ensures { self.new ≡ self.old }
     {
-        &self.taken[..self.served]
+        if self.served() < self.queued as usize || self.taken.len() <= self.settled.len() {
+            return;
+        }
+        let alloc = *self.taken.allocator();
+        let taken = mem::replace(&mut self.taken, Vec::new(alloc));
+        match self.settled.with(alloc, taken) {
+            Ok(settled) => {
+                self.settled = settled;
+                self.served = 0;
+            }
+            Err(taken) => self.taken = taken,
+        }
+    }
+
+    /// A list of the numbers that were served, in order.
+    pub(crate) fn numbers(&self, alloc: Global) -> Result<Vec<u32>, Memory>
+        ensures { IfOk result (λ numbers. numbers.items ≡ self.now.served) }
+    {
+        self.settled.followed_by(alloc, &self.taken[..self.served])
     }
 
     /// Makes room for so many turns more at once, where memory is to be had; else room is made as they come.
@@ -285,7 +314,7 @@ impl<W: WorkList> Queue<W> {
         }
     }
 
-    /// Numbers that were served and are flagged wait again.
+    /// Numbers that were served and are flagged wait again. Those that are settled are not gone through.
     pub(crate) fn unserve(&mut self, alloc: Global, flags: &Flags) -> Result<(), Memory>
         ensures queued { self.new.queued ≡ self.old.queued }
         ensures waiting { self.new.waiting ≡ self.old.waiting }
@@ -296,6 +325,9 @@ impl<W: WorkList> Queue<W> {
             return Ok(());
         }
         let again = Vec::with_capacity(alloc, flags.numbers().len())?;
+        let (settled, unsettled) = self.settled.parted(alloc, flags)?;
+        self.taken.extend_from_slice(&unsettled)?;
+        self.settled = settled;
         self.served = part(&mut self.taken, self.served, again, flags);
         Ok(())
     }

@@ -1,5 +1,5 @@
 //! The state of a saturation.
-ghost use Rattle.std.specs.Prelude.{OnErr, ◌≡◌, ◌↔◌, ◌<◌, ◌≤◌, ◌+◌, ◌^◌, Ok, Err, Some, true, false, [], Contains, drop, length, slice_get, take, IfOk, OnOk, IfSome, IfNone, map};
+ghost use Rattle.std.specs.Prelude.{OnErr, ◌≡◌, ◌↔◌, ◌<◌, ◌≤◌, ◌+◌, ◌^◌, Ok, Err, Some, true, false, [], Contains, drop, length, slice_get, take, IfOk, OnOk, IfSome, IfNone, IsNone};
 ghost use Rattle.facts.specs.Births.{reason};
 ghost use Rattle.inference.specs.Derivations.{HasMoreFactsThan};
 ghost use Rattle.saturate.specs.State.{Extends, GaveFact, ended, nothing_seen};
@@ -7,6 +7,7 @@ ghost use Rattle.saturate.specs.Growth.{HasGrown, KeepsServed};
 ghost use Rattle.saturate.specs.Run.{HasRun, IsLeft, IsState, IsStep};
 ghost use Rattle.inference.specs.PropertyClosures.{IsClosureOf};
 ghost use Rattle.inference.specs.Completeness.{IsClosure};
+ghost use Rattle.inference.specs.Tags.{NoneIn};
 ghost use Rattle.normal_forms.specs.Apart.{AreContinuedBy};
 
 use crate::extension::carry_on;
@@ -16,8 +17,8 @@ use crate::queue::Queue;
 use axioms::Memory;
 use facts::{Birth, Context, Fact, FactId, StoredFact};
 use indexes::Index;
-use inference::{KnownFacts, Premise, Rules, Stop, is_filler, is_second_premise};
-use normal_forms::{ApartLists, FormList};
+use inference::{BirthList, KnownFacts, Premise, Rules, Stop, is_filler, is_second_premise};
+use normal_forms::{ApartLists, Class2, FormList};
 use property_closure::PropertyClosure;
 use std::alloc::Global;
 use std::hash::RandomState;
@@ -72,11 +73,12 @@ impl<W: WorkList> State<W> {
         ensures state { IfOk result IsState }
     {
         let ground = Ground::empty(alloc)?;
+        let queue = Queue::new(alloc, list)?;
         Ok(State {
             alloc,
             ground,
             facts: KnownFacts::new(alloc, state),
-            queue: Queue::new(alloc, list),
+            queue,
             index: Index::new(alloc),
         })
     }
@@ -213,8 +215,8 @@ impl<W: WorkList> State<W> {
     }
 
     /// What gave the facts, in their order.
-    pub fn births(&self) -> &[Birth]
-        ensures { map reason result.now ≡ self.now.births }
+    pub fn births(&self) -> &BirthList
+        ensures { result.now.reasons ≡ self.now.births }
     {
         self.facts.births()
     }
@@ -239,6 +241,17 @@ impl<W: WorkList> State<W> {
     {
         let number = self.facts.find(fact)?;
         Some(FactId(number))
+    }
+
+    /// Passes over the facts from that number on that put nothing into the class: the number of one that may, if there is any. It looks
+    /// at a byte of each, and at the next where that is the class's.
+    pub fn next_in(&self, class: Class2, from: usize) -> Option<u32>
+        ensures low { IfSome result (λ number. from ≤ number) }
+        ensures high { IfSome result (λ number. number < length self.now.facts) }
+        ensures before { IfSome result (λ number. NoneIn from number self.now.facts class) }
+        ensures none { IsNone result → NoneIn from (length self.now.facts) self.now.facts class }
+    {
+        self.facts.next_in(class, from)
     }
 
     /// How many facts are served.
@@ -284,7 +297,7 @@ impl<W: WorkList> State<W> {
         }
     }
 
-    /// Serves one fact that is pending, or answers `false` where there is none; that takes no memory.
+    /// Serves one fact that is pending, or answers `false` where there is none; that needs no memory.
     ///
     /// # Errors
     ///
@@ -330,7 +343,14 @@ impl<W: WorkList> State<W> {
         Ok(true)
     }
 
-    /// Serves all facts that are pending, and those that come of them. Where none is pending, that takes no memory.
+    /// Lets copies share what gave the facts.
+    fn rest(&mut self)
+        ensures { self.new ≡ self.old }
+    {
+        self.facts.share_births();
+    }
+
+    /// Serves all facts that are pending, and those that come of them. Where none is pending, that needs no memory.
     ///
     /// # Errors
     ///
@@ -343,6 +363,7 @@ impl<W: WorkList> State<W> {
             return Err(Stop::Limit);
         }
         'steps: while self.step(max_facts)? {}
+        self.rest();
         Ok(())
     }
 }

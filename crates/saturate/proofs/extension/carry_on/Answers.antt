@@ -5,31 +5,34 @@ use Rattle.saturate.proofs.Flagging.{keeps_served, keeps_served_then}
 use Rattle.saturate.proofs.Staying.{entered_then, listed_then}
 use Rattle.saturate.proofs.extension.carry_on.Goals as goal
 
-pub flags_of-requires-clause-served : goal.flags_of-requires-clause-served
-flags_of-requires-clause-served g c = λ n there. c.requires.turns.served n (rw c.numbers.ensures at there)
-
 pub listed_still-requires-clause-listed : goal.listed_still-requires-clause-listed
 listed_still-requires-clause-listed g c =
     let served : List ℕ = c.args.queue.now.served in
     let flags = c.in_ok-flags.flags in
-    listed_then c.args.from c.requires.grown (rw (c.forms.ensures, c.problem.ensures) at c.leave_properties-leaves.ensures c.if-leaves.true) (kept flags served)
-    (keeps_served c.args.earlier.now c.args.ground.now c.args.facts.now.facts flags served (λ n there. c.in_ok-flags.ensures.flags n (rw c.numbers.ensures there)))
+    listed_then c.args.from c.requires.grown (rw (c.forms-all.ensures, c.problem.ensures) at (c.leave_lists-leaves.ensures.0 c.if-leaves.true)) (kept flags served)
+    (keeps_served c.args.earlier.now c.args.ground.now c.args.facts.now.facts flags served c.in_ok-flags.ensures.flags)
     c.requires.listed
 
 pub returns-then-looked_at-few-clause-served : goal.returns-then-looked_at-few-clause-served
 returns-then-looked_at-few-clause-served g c =
     on_ok_weaker c.listed_still.result
     (λ is. keeps_served_then c.args.earlier.now c.args.ground.now c.args.facts.now.facts c.in_ok-flags.flags c.args.queue.now.served c.listed_still.new.queue.served is
-    (λ n there. c.in_ok-flags.ensures.flags n (rw c.numbers.ensures there)))
+    c.in_ok-flags.ensures.flags)
     c.listed_still.ensures.served
 
 pub returns-clause-served : goal.returns-clause-served
 returns-clause-served g c =
     on_ok_weaker c.listed_anew.result
     (λ is. keeps_served_then c.args.earlier.now c.args.ground.now c.args.facts.now.facts c.in_ok-flags.flags c.args.queue.now.served c.listed_anew.new.queue.served is
-    (λ n there. c.in_ok-flags.ensures.flags n (rw c.numbers.ensures there)))
+    c.in_ok-flags.ensures.flags)
     c.listed_anew.ensures.served
 
 pub listed_still-requires-clause-entered : goal.listed_still-requires-clause-entered
-listed_still-requires-clause-entered g c =
-    rw c.roots-entered.ensures (entered_then c.args.from c.requires.grown (rw (c.forms.ensures, c.problem.ensures) at c.leave_properties-leaves.ensures c.if-leaves.true) c.requires.complete)
+listed_still-requires-clause-entered g c = λ many is.
+    let w = c.entered_roots-entered.ensures.some many is in
+    rw w.0 (entered_then c.args.from c.requires.grown (rw (c.forms-all.ensures, c.problem.ensures) at w.1) c.requires.complete)
+
+pub listed_anew-requires-clause-entered : goal.listed_anew-requires-clause-entered
+listed_anew-requires-clause-entered g c = λ many is.
+    let w = c.entered_roots-entered.ensures.some many is in
+    rw w.0 (entered_then c.args.from c.requires.grown (rw (c.forms-all.ensures, c.problem.ensures) at w.1) c.requires.complete)

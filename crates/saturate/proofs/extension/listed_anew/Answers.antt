@@ -6,7 +6,7 @@ use Rattle.saturate.proofs.Listing.{still_listed}
 use Rattle.saturate.proofs.extension.listed_anew.Goals as goal
 
 pub indexed-requires-clause-numbers : goal.indexed-requires-clause-numbers
-indexed-requires-clause-numbers g c = λ n there. c.requires.turns.served n (rw c.numbers.ensures at there)
+indexed-requires-clause-numbers g c = λ n there. c.requires.turns.served n (rw (c.deref.ensures.value, c.in_ok-served.ensures) at there)
 
 pub returns-in-Ok-clause-goes_on : goal.returns-in-Ok-clause-goes_on
 returns-in-Ok-clause-goes_on g c =
@@ -17,5 +17,5 @@ returns-in-Ok-clause-goes_on g c =
       queued = c.begun_again.ensures.queued;
       waiting = c.begun_again.ensures.waiting;
       listed = still_listed c.in-Ok.ensures.begun.grows (λ n there. c.requires.turns.served n (from_kept (is_kept c.args.flags.now) c.args.queue.now.served n (rw same at there)))
-          (subst (λ (ns : List ℕ). ListsFacts c.args.ground.now c.args.facts.now ns ns c.in_ok-again.again) (sym same) (rw c.numbers.ensures at c.in_ok-again.ensures));
+          (subst (λ (ns : List ℕ). ListsFacts c.args.ground.now c.args.facts.now ns ns c.in_ok-again.again) (sym same) (rw (c.deref.ensures.value, c.in_ok-served.ensures) at c.in_ok-again.ensures));
     }

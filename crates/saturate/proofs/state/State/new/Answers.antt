@@ -11,10 +11,10 @@ use Rattle.saturate.proofs.state.State.new.Goals as goal
 
 pub invariant_of-result : goal.invariant_of-result
 invariant_of-result g c = (
-  begun c.in_ok-ground.ensures.forms c.in_ok-ground.ensures.apart c.in_ok-ground.ensures.roots c.new.ensures.facts c.new.ensures.births c.new-2.ensures.queued c.new-2.ensures.served,
-  subst (λ (ns : List ℕ). ListsFacts c.in_ok-ground.ground c.new.result ns (c.new-2.result.served ++ option_list c.new-2.result.hand) c.new-3.result) (sym c.new-2.ensures.served) (nothing_listed c.in_ok-ground.ground c.new.result _ c.new-3.result c.new-3.ensures),
-  none_named c.new.result.facts c.new-2.result.waiting c.new-2.ensures.waiting,
+  begun c.in_ok-ground.ensures.forms c.in_ok-ground.ensures.apart c.in_ok-ground.ensures.roots c.new-2.ensures.facts c.new-2.ensures.births c.in_ok-queue.ensures.queued c.in_ok-queue.ensures.served,
+  subst (λ (ns : List ℕ). ListsFacts c.in_ok-ground.ground c.new-2.result ns (c.in_ok-queue.queue.served ++ option_list c.in_ok-queue.queue.hand) c.new-3.result) (sym c.in_ok-queue.ensures.served) (nothing_listed c.in_ok-ground.ground c.new-2.result _ c.new-3.result c.new-3.ensures),
+  none_named c.new-2.result.facts c.in_ok-queue.queue.waiting c.in_ok-queue.ensures.waiting,
 )
 
 pub returns-clause-state : goal.returns-clause-state
-returns-clause-state g c = seen_state {q = c.new-2.result} (begun c.in_ok-ground.ensures.forms c.in_ok-ground.ensures.apart c.in_ok-ground.ensures.roots c.new.ensures.facts c.new.ensures.births c.new-2.ensures.queued c.new-2.ensures.served) (subst AreDistinct (sym c.new-2.ensures.served) (λ i j x a b. absurd (none-some x a)))
+returns-clause-state g c = seen_state {q = c.in_ok-queue.queue} (begun c.in_ok-ground.ensures.forms c.in_ok-ground.ensures.apart c.in_ok-ground.ensures.roots c.new-2.ensures.facts c.new-2.ensures.births c.in_ok-queue.ensures.queued c.in_ok-queue.ensures.served) (subst AreDistinct (sym c.in_ok-queue.ensures.served) (λ i j x a b. absurd (none-some x a)))

@@ -1,0 +1,13 @@
+use Rattle.std.proofs.Common.{subst, sym}
+use Rattle.inference.specs.Joins.{AreJoins}
+use Rattle.saturate.proofs.Summaries.{joins_kept}
+use Rattle.saturate.proofs.summary.Summary.joins_with.Goals as goal
+
+pub returns-then-leave_joins : goal.returns-then-leave_joins
+returns-then-leave_joins c =
+    subst (AreJoins c.args.problem.now.forms) (sym c.in_ok-clone.ensures.cases)
+    (joins_kept c.args.problem.now.forms c.args.from c.args.self.now.closure.value c.args.self.now.joins.value
+    (rw (c.as_ref-before.ensures, c.as_ref.ensures, c.forms.ensures) at (c.leave_joins.ensures.0 c.if-leave_joins.true))
+    c.requires.before.closure
+    (rw c.as_ref-before.ensures at c.well_formed-2.ensures)
+    c.requires.before.joins)
