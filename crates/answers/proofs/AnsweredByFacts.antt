@@ -159,10 +159,8 @@ module _ (o : Ontology) (w : IsOntology o) (s : Saturated) (h : IsSaturated o s)
 
 -- the names among which the answers are differ
 pub asked_apart : (o : Ontology) → IsOntology o → (q : Selection) → AreDistinct (names_asked o q)
-asked_apart o w (Above e) = w.distinct_classes
-asked_apart o w (Below e) = w.distinct_classes
 asked_apart o w (Members e) = w.distinct_individuals
-asked_apart o w (Types a) = w.distinct_classes
+asked_apart o w _ = w.distinct_classes
 
 -- ---- a class by its name
 

@@ -1,5 +1,5 @@
 -- What conditions for a class are, and that what has all parts of one is in the class.
-use Rattle.std.proofs.Common.{◌≡◌, ◌==◌, ⊎_elim, not, ℕ, ◌+◌, ◌<◌, Bool, true, false, List, [], ◌∷◌, if◌then◌else◌, get_or, length, map, slice_get, Option, Some, None, All, Contains, refl, sym, subst, arith}
+use Rattle.std.proofs.Common.{◌≡◌, ◌==◌, ⊎_elim, not, ℕ, ◌+◌, ◌<◌, Bool, true, false, List, [], ◌∷◌, if◌then◌else◌, get_or, length, map, slice_get, Option, Some, All, Contains, refl, sym, subst, arith}
 use Rattle.std.specs.List.{enumerate_from, flat_map, list_any}
 use Rattle.std.proofs.lemmas.Bool.{eqb-true}
 use Rattle.std.proofs.lemmas.List.{length-map}
@@ -8,7 +8,7 @@ use Rattle.lemmas.proofs.Mapped.{All-from_map}
 use Rattle.lemmas.proofs.Members.{Contains-cons_cases, Contains-first, Contains-later, Contains-none, Contains-one}
 use Rattle.lemmas.proofs.Pairs.{AllPairs-from_map}
 use Rattle.axioms.specs.Expression.{ClassExpression, Iri}
-use Rattle.axioms.specs.Ontology.{Ontology, Axiom, SubClass, EquivalentClasses, Node, Class, And, Exists, axiom_tree, axiom_trees, expression, expressions}
+use Rattle.axioms.specs.Ontology.{Ontology, Axiom, SubClass, EquivalentClasses, Node, Class, And, axiom_tree, axiom_trees, expression, expressions}
 use Rattle.axioms.specs.WellFormedness.{IsAxiomOf, IsOntology}
 use Rattle.axioms.proofs.Trees.{and_tree}
 use Rattle.cert_check.proofs.Places.{of_elements}
@@ -82,9 +82,7 @@ module _ (o : Ontology) (questions : List ℕ) where
 
   parts_left : (f : ℕ) (node : Option Node) → slice_get o.nodes f ≡ node → OccursLeft o questions f → All (OccursLeft o questions) (parts_by node f)
   parts_left f (Some (And ds)) at occurs = λ k d l. OccursLeft.by_part f (And ds) occurs at (Contains-get_or ds k d l)
-  parts_left f (Some (Class c)) at occurs = All-cons (OccursLeft o questions) f [] occurs (All-nil (OccursLeft o questions))
-  parts_left f (Some (Exists r c)) at occurs = All-cons (OccursLeft o questions) f [] occurs (All-nil (OccursLeft o questions))
-  parts_left f None at occurs = All-cons (OccursLeft o questions) f [] occurs (All-nil (OccursLeft o questions))
+  parts_left f _ at occurs = All-cons (OccursLeft o questions) f [] occurs (All-nil (OccursLeft o questions))
 
   -- the parts of conditions occur on left sides
   pub parts_occur : (e : ℕ) → All (λ (q : ℕ × ℕ). All (OccursLeft o questions) (parts_of o q.1)) (conditions_of o e)
@@ -99,9 +97,7 @@ module _ (o : Ontology) (w : IsOntology o) where
 
   parts_there : (f : ℕ) (node : Option Node) → slice_get o.nodes f ≡ node → f < length o.nodes → All (λ d. d < length o.nodes) (parts_by node f)
   parts_there f (Some (And ds)) at low = λ k d l. (let less : get_or ds k d < f = (w.nodes f (And ds) at).within k d l in omega (arith, less, low))
-  parts_there f (Some (Class c)) at low = All-cons (λ d. d < length o.nodes) f [] low (All-nil (λ d. d < length o.nodes))
-  parts_there f (Some (Exists r c)) at low = All-cons (λ d. d < length o.nodes) f [] low (All-nil (λ d. d < length o.nodes))
-  parts_there f None at low = All-cons (λ d. d < length o.nodes) f [] low (All-nil (λ d. d < length o.nodes))
+  parts_there f _ at low = All-cons (λ d. d < length o.nodes) f [] low (All-nil (λ d. d < length o.nodes))
 
   -- the parts of conditions are there
   pub parts_within : (e : ℕ) → All (λ (q : ℕ × ℕ). All (λ d. d < length o.nodes) (parts_of o q.1)) (conditions_of o e)
@@ -131,9 +127,7 @@ module _ (o : Ontology) (w : IsOntology o) where
   in_whole i x f (Some (And ds)) at each =
       subst (λ (t : ClassExpression). IsIn i t x) (sym (and_tree o w f ds at))
       (in_intersection i x (expressions o ds) (omega (arith, (w.nodes f (And ds) at).many, length-map ds (expression o))) (All-map (λ t. IsIn i t x) (expression o) ds each))
-  in_whole i x f (Some (Class c)) at each = All-head (λ d. IsIn i (expression o d) x) f [] each
-  in_whole i x f (Some (Exists r c)) at each = All-head (λ d. IsIn i (expression o d) x) f [] each
-  in_whole i x f None at each = All-head (λ d. IsIn i (expression o d) x) f [] each
+  in_whole i x f _ at each = All-head (λ d. IsIn i (expression o d) x) f [] each
 
   pub condition_gives : (a : Asked) (class : Iri) (e : ℕ) → IsClassNamed o class e → (number f : ℕ) → Contains (conditions_of o e) (number, f)
       → All (IsInExpression o a) (parts_of o f) → FollowsFor o a class

@@ -1,12 +1,12 @@
 -- Groups of classes, one after the other.
-use Rattle.std.proofs.Common.{◌≡◌, ◌↔◌, ◌⊎◌, ◌==◌, ℕ, ◌+◌, ◌<◌, ◌≤◌, true, List, [], ◌∷◌, ◌++◌, length, map, take, slice_get, get_or, Some, Contains, AllPairs, inl, inr, ⊎_elim, sym, ap, ◌∙◌, subst, subst₂, arith}
+use Rattle.std.proofs.Common.{◌≡◌, ◌↔◌, ◌⊎◌, ◌==◌, ℕ, ◌+◌, ◌<◌, ◌≤◌, true, List, [], ◌∷◌, ◌++◌, length, map, take, slice_get, get_or, Some, Contains, inl, inr, ⊎_elim, sym, ap, ◌∙◌, subst, subst₂, arith}
 use Rattle.std.specs.List.{list_any}
 use Rattle.std.specs.Cmp.Lexicographic.{slice_cmp}
 use Rattle.std.specs.Ordering.{is_lt, nat_cmp, ordering_reverse}
 use Rattle.std.specs.declared.cmp.Ordering.{Ordering}
 use Rattle.std.specs.declared.cmp.Ordering.TheVariants.{Less, Equal, Greater}
 use Rattle.std.proofs.lemmas.Bool.{cases_order, eq-eqb, eqb-true, false≢true, or_cases, or_left, or_right}
-use Rattle.std.proofs.lemmas.Cmp.{nat_list_cmp_total, ranked}
+use Rattle.std.proofs.lemmas.Cmp.{nat_list_cmp_total}
 use Rattle.std.proofs.lemmas.List.{map-append, take_all}
 use Rattle.std.proofs.lemmas.List.Elements.{Contains-append_left, Contains-append_right, Contains-append_cases}
 use Rattle.std.proofs.lemmas.List.Quantifiers.{all_pairs_push}
@@ -16,7 +16,6 @@ use Rattle.lemmas.proofs.Members.{Contains-cons_cases, Contains-first, Contains-
 use Rattle.lemmas.proofs.Places.{slice_get_take, take_push, take_slice_get}
 use Rattle.axioms.specs.Expression.{Iri}
 use Rattle.axioms.specs.Ontology.{Ontology}
-use Rattle.axioms.specs.WellFormedness.{AreDistinct}
 use Rattle.taxonomy.specs.Relation.{is_listed}
 use Rattle.answers.specs.Names.{AreInByteOrder, AreThose, HasNumber}
 use Rattle.answers.specs.Neighbours.{AreGroups, AreSame, IsClosed, TellsGroup, first_of}
@@ -60,21 +59,6 @@ module _ (xs : List ℕ) (k x : ℕ) (at : slice_get xs k ≡ Some x) (P : ℕ �
     λ there. (let (a, b) = (was d).0 there in (before d a, b)),
     λ h. ⊎_elim (λ a. (was d).1 (a, h.1)) (λ e. absurd (other (subst P (sym e) h.1))) (more d h.0),
   )
-
-pub ascending_once : (xs : List ℕ) → AllPairs (λ a b. nat_cmp a b ≡ Less) xs → AreDistinct xs
-ascending_once xs up m n x h l = elim (cases_order m n) [
-  | inl same ↦ same
-  | inr apart ↦ elim apart [
-    | inl less ↦ absurd (twice m n h l less)
-    | inr more ↦ absurd (twice n m l h more)
-  ]
-]
-  where
-    twice : (i j : ℕ) → slice_get xs i ≡ Some x → slice_get xs j ≡ Some x → i < j → ⊥
-    twice i j at there low =
-        let less : nat_cmp x x ≡ Less = subst₂ (λ (a b : ℕ). nat_cmp a b ≡ Less) (get_or_from_slice_get xs i x x at) (get_or_from_slice_get xs j x x there) (up i j x low (slice_get_within xs j x there)) in
-        let below : x < x = ranked x x Less (sym less) in
-        omega arith
 
 -- ---- names in order
 

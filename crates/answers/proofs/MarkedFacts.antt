@@ -1,17 +1,24 @@
 -- Marks that are made step after step, and those on the numbers that facts give.
-use Rattle.std.proofs.Common.{◌≡◌, ◌↔◌, ℕ, ◌+◌, ◌<◌, ◌≤◌, ◌⊎◌, inl, inr, ⊎_elim, Bool, true, false, List, length, replicate, slice_get, Option, Some, None, Contains, refl, sym, ◌∙◌, subst, arith, below_more}
+use Rattle.std.proofs.Common.{◌≡◌, ◌↔◌, ℕ, ◌+◌, ◌<◌, ◌≤◌, ◌⊎◌, inl, inr, ⊎_elim, Bool, true, false, List, length, replicate, slice_get, Option, Some, None, Contains, refl, sym, ap, ◌∙◌, subst, arith, below_more}
 use Rattle.std.specs.Prelude.{slice_set}
-use Rattle.std.proofs.lemmas.Bool.{false≢true}
+use Rattle.std.proofs.lemmas.Bool.{cases_lt, false≢true}
 use Rattle.std.proofs.lemmas.List.{length-replicate}
 use Rattle.std.proofs.lemmas.Option.{none-some, same_Some, slice_get_within}
 use Rattle.lemmas.proofs.Members.{slice_get-from_Contains}
 use Rattle.number_sets.proofs.Members.{has_none, has_set_cases, has_set_grows, has_set_same, has_within}
-use Rattle.axioms.specs.Ontology.{Ontology}
+use Rattle.axioms.specs.Ontology.{Ontology, nothing}
+use Rattle.axioms.specs.declared.ids.ExprId.{ExprId}
 use Rattle.facts.specs.declared.contexts.Context.{Context}
+use Rattle.facts.specs.declared.contexts.Context.TheVariants as contexts
 use Rattle.facts.specs.declared.contexts.Fact.{Fact}
+use Rattle.facts.specs.declared.contexts.Fact.TheVariants.{In}
+use Rattle.inference.specs.Tags.{NoneIn}
+use Rattle.normal_forms.specs.declared.forms.Class2.{Class2}
+use Rattle.normal_forms.specs.declared.forms.Class2.TheVariants.{Expr}
 use Rattle.indexes.specs.FactIndex.{IsIn}
 use Rattle.classification.specs.Lists.{SomeFact}
-use Rattle.answers.specs.Selections.{AreGiven, IsOnly, PutsInClass}
+use Rattle.answers.specs.Selections.{Answers, AreGiven, IsOnly, PutsClass, PutsInClass}
+use Rattle.answers.specs.declared.selection.Selection.TheVariants.{Below, Members}
 use Rattle.answers.specs.Names.{IsMarked}
 
 -- one of the first k steps gives the number
@@ -52,6 +59,20 @@ module _ (gives : ℕ → ℕ → Type 0) (start : List Bool) where
     λ h. step.1 (⊎_elim (λ o. inl o) (λ g. inr ((only n).0 g)) h),
   )))
 
+  -- steps that give nothing are passed over
+  pub passed : (from to : ℕ) (marks : List Bool) → from ≤ to → ((j n : ℕ) → from ≤ j → j < to → gives j n → ⊥) → AreMarksAfter from marks → AreMarksAfter to marks
+  passed from to marks low none was = record {
+    long = was.long;
+    exact = λ n there.
+        let before = was.exact n there in (
+          λ mark. ⊎_elim (λ s. inl s) (λ v. (let less : v.0 < from = v.1 in inr (v.0, omega (arith, less, low), v.2))) (before.0 mark),
+          λ h. before.1 (⊎_elim
+              (λ s. inl s)
+              (λ v. inr (v.0, ⊎_elim (λ (less : v.0 < from). less) (λ (past : from ≤ v.0). absurd (none v.0 n past v.1 v.2)) (cases_lt v.0 from), v.2))
+              h),
+        );
+  }
+
 -- where nothing was marked at the start
 module _ (gives : ℕ → ℕ → Type 0) (size k : ℕ) (marks : List Bool) (are : AreMarksAfter gives (replicate size false) k marks) where
   pub as_long : length marks ≡ size
@@ -81,18 +102,8 @@ only_at {A} xs gives j x at answer only n = (
 
 -- ---- by facts
 
+-- by those of some numbers, among which are all that give any
 module _ (gives : Fact → ℕ → Type 0) (facts : List Fact) (marks found : List Bool) (k : ℕ) where
-  pub by_all : AreMarksAfter (At facts gives) (replicate (length marks) false) k found → length facts ≤ k → AreGiven gives facts marks found
-  by_all are end = record {
-    long = as_long (At facts gives) (length marks) k found are;
-    exact = λ n mark.
-        let is = given_is (At facts gives) (length marks) k found are n (has_within marks n mark) in (
-          λ m. (let (j, less, (f, at, g)) = is.0 m in (j, f, at, g)),
-          λ (j, f, at, g). is.1 (j, omega (arith, slice_get_within facts j f at, end), (f, at, g)),
-        );
-  }
-
-  -- by those of some numbers, among which are all that give any
   pub by_some : (numbers : List ℕ) → AreMarksAfter (At numbers (At facts gives)) (replicate (length marks) false) k found → length numbers ≤ k
       → ((n m : ℕ) (f : Fact) → slice_get facts m ≡ Some f → gives f n → Contains numbers m) → AreGiven gives facts marks found
   by_some numbers are end all = record {
@@ -105,6 +116,92 @@ module _ (gives : Fact → ℕ → Type 0) (facts : List Fact) (marks found : Li
               is.1 (j, omega (arith, slice_get_within numbers j m there, end), (m, there, (f, at, g))),
         );
   }
+
+-- ---- by the facts of one class
+
+-- a fact gives a number only where it puts something into the class
+abbrev pub GivesOf : Class2 → (Fact → ℕ → Type 0) → Type 0
+GivesOf a gives = (f : Fact) (n : ℕ) → gives f n → (x : Context) × (f ≡ In a x)
+
+module _ (gives : Fact → ℕ → Type 0) (facts : List Fact) (a : Class2) (of : GivesOf a gives) where
+  none_at : (from to : ℕ) → NoneIn from to facts a → (j n : ℕ) → from ≤ j → j < to → At facts gives j n → ⊥
+  none_at from to none j n low high v = (let p = of v.0 n v.2 in none p.0 j low high (v.1 ∙ ap (λ (f : Fact). Some f) p.1))
+
+  -- facts of other classes are passed over, and the next one gives the answer
+  pub next_mark : (start : List Bool) (from number : ℕ) (old new : List Bool) (f : Fact) (answer : Option ℕ) → from ≤ number → NoneIn from number facts a → slice_get facts number ≡ Some f → IsOnly (gives f) answer
+      → AreMarksAfter (At facts gives) start from old → length new ≡ length old → ((n : ℕ) → n < length old → IsMarked new n ↔ (IsMarked old n ⊎ (answer ≡ Some n)))
+      → AreMarksAfter (At facts gives) start (number + 1) new
+  next_mark start from number old new f answer low none at only was long adds =
+      one_mark (At facts gives) start number old new answer (passed (At facts gives) start from number old low (none_at from number none) was)
+      (only_at facts gives number f at answer only) long adds
+
+  -- where those that are left are of other classes
+  module _ (k : ℕ) (marks : List Bool) (none : NoneIn k (length facts) facts a) where
+    some_before : (n : ℕ) → SomeFact facts (λ fact. gives fact n) ↔ GivenBefore (At facts gives) k n
+    some_before n = (
+      λ (j, f, at, g). (
+        j,
+        ⊎_elim (λ (less : j < k). less) (λ (past : k ≤ j). absurd (none_at k (length facts) none j n past (slice_get_within facts j f at) (f, at, g))) (cases_lt j k),
+        (f, at, g),
+      ),
+      λ (j, less, (f, at, g)). (j, f, at, g),
+    )
+
+    pub by_class : (among : List Bool) → AreMarksAfter (At facts gives) (replicate (length among) false) k marks → AreGiven gives facts among marks
+    by_class among are = record {
+      long = as_long (At facts gives) (length among) k marks are;
+      exact = λ n mark.
+          let is = given_is (At facts gives) (length among) k marks are n (has_within among n mark) in
+          let some = some_before n in
+          (λ m. some.1 (is.0 m), λ given. is.1 (some.0 given));
+    }
+
+    pub with_class : (start : List Bool) → AreMarksAfter (At facts gives) start k marks → (n : ℕ) → n < length start → IsMarked marks n ↔ (IsMarked start n ⊎ SomeFact facts (λ fact. gives fact n))
+    with_class start are n there =
+        let is = are.exact n there in
+        let some = some_before n in (
+          λ m. ⊎_elim (λ s. inl s) (λ v. inr (some.1 v)) (is.0 m),
+          λ h. is.1 (⊎_elim (λ s. inl s) (λ given. inr (some.0 given)) h),
+        )
+
+pub puts_member : (o : Ontology) (e : ExprId) → GivesOf (Expr e) (Answers o (Members e))
+puts_member o e f n puts = (contexts.Individual (record { 0 = n }), puts)
+
+pub puts_class : (o : Ontology) (e : ExprId) → GivesOf (Expr e) (PutsClass o e.0)
+puts_class o e f n (g, class, puts) = (contexts.Expr (record { 0 = g }), puts)
+
+-- by those that put a class in the expression, and then by those that put one in owl:Nothing
+module _ (o : Ontology) (e : ExprId) (facts : List Fact) where
+  abbrev some_puts : ℕ → ℕ → Type 0
+  some_puts f n = SomeFact facts (λ fact. PutsClass o f fact n)
+
+  in_either : (n : ℕ) → SomeFact facts (λ fact. Answers o (Below e) fact n) ↔ (some_puts e.0 n ⊎ some_puts nothing n)
+  in_either n = (
+    λ (j, f, at, (g, class, puts)). ⊎_elim (λ p. inl (j, f, at, (g, class, p))) (λ p. inr (j, f, at, (g, class, p))) puts,
+    λ h. ⊎_elim (λ (j, f, at, (g, class, p)). (j, f, at, (g, class, inl p))) (λ (j, f, at, (g, class, p)). (j, f, at, (g, class, inr p))) h,
+  )
+
+  pub by_both : (marks start mid found : List Bool) → start ≡ replicate (length marks) false → length mid ≡ length start → length found ≡ length mid
+      → ((n : ℕ) → n < length start → IsMarked mid n ↔ (IsMarked start n ⊎ some_puts e.0 n))
+      → ((n : ℕ) → n < length mid → IsMarked found n ↔ (IsMarked mid n ⊎ some_puts nothing n))
+      → AreGiven (Answers o (Below e)) facts marks found
+  by_both marks start mid found is long longer first second = record {
+    long = longer ∙ long ∙ size;
+    exact = λ n mark.
+        let low = has_within marks n mark in
+        let one = first n (subst (λ (m : ℕ). n < m) (sym size) low) in
+        let two = second n (subst (λ (m : ℕ). n < m) (sym (long ∙ size)) low) in
+        let some = in_either n in (
+          λ m. some.1 (⊎_elim (λ was. ⊎_elim (λ s. absurd (unmarked n s)) (λ p. inl p) (one.0 was)) (λ p. inr p) (two.0 m)),
+          λ given. two.1 (⊎_elim (λ p. inl (one.1 (inr p))) (λ p. inr p) (some.0 given)),
+        );
+  }
+    where
+      size : length start ≡ length marks
+      size = ap length is ∙ length-replicate {A = Bool} (length marks) false
+
+      unmarked : (n : ℕ) → IsMarked start n → ⊥
+      unmarked n s = false≢true (sym (has_none (length marks) n) ∙ subst (λ (ms : List Bool). IsMarked ms n) is s)
 
 -- ---- by the search for a fact that gives a marked number
 

@@ -25,6 +25,7 @@ use Rattle.axioms.specs.Ontology.{name_at}
 use Rattle.axioms.specs.WellFormedness.{AreDistinct}
 use Rattle.answers.specs.Names.{AreInByteOrder, AreMarkedBelow, AreNamesOf, AreThose, HasMark, HasNumber, IsMarked}
 use Rattle.answers.specs.Neighbours.{AreMarksOf}
+use Rattle.taxonomy.proofs.Once.{same_truth}
 
 -- ---- the same names by another property
 
@@ -114,16 +115,11 @@ apart xs distinct = IsDistinct-from_apart bytes_eq xs (λ i j d low high. false_
         let same : i ≡ j = distinct i j (get_or xs j d) (slice_get-get_or xs i d (omega arith) ∙ ap (λ x. Some x) e) (slice_get-get_or xs j d high) in
         absurd (omega arith)
 
-same_tests : (a b : Bool) → (a ≡ true → b ≡ true) → (b ≡ true → a ≡ true) → a ≡ b
-same_tests true b h k = sym (h refl)
-same_tests false true h k = k refl
-same_tests false false h k = refl
-
 flips : (x y : Iri) → bytes_eq x y ≡ bytes_eq y x
 flips x y =
     let d = bytes_eq-Decides x y in
     let e = bytes_eq-Decides y x in
-    same_tests (bytes_eq x y) (bytes_eq y x) (λ t. e.1 (sym (d.0 t))) (λ t. d.1 (sym (e.0 t)))
+    same_truth (bytes_eq x y) (bytes_eq y x) (λ t. e.1 (sym (d.0 t))) (λ t. d.1 (sym (e.0 t)))
 
 -- neither before nor the same is after
 only_less : (a b : Iri) → is_lt (slice_cmp nat_cmp b a) ≡ false → bytes_eq a b ≡ false → is_lt (slice_cmp nat_cmp a b) ≡ true

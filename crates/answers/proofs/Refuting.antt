@@ -1,9 +1,6 @@
 -- The part that is made refutes what is asked.
-use Rattle.std.proofs.Common.{◌≡◌, ◌↔◌, ℕ, ◌<◌, inl, inr, List, [], length, get_or, slice_get, Some, Option, unwrap_or, refl, sym, ap, ◌∙◌, subst, arith}
-use Rattle.std.specs.List.Sorted.{IsStrictlyIncreasing}
-use Rattle.std.proofs.lemmas.Bool.{cases_order}
-use Rattle.std.proofs.lemmas.List.Kept.{AllPairs-from_increasing}
-use Rattle.std.proofs.lemmas.Option.{slice_get_within, get_or_from_slice_get}
+use Rattle.std.proofs.Common.{◌≡◌, ◌↔◌, ℕ, ◌<◌, List, [], length, slice_get, Some, Option, unwrap_or, refl, sym, ap, ◌∙◌, subst}
+use Rattle.std.proofs.lemmas.Option.{slice_get_within}
 use Rattle.axioms.specs.Expression.{Iri, ClassExpression, Named}
 use Rattle.axioms.specs.Ontology.{Ontology, Class, expression, individual_name, axiom_trees}
 use Rattle.axioms.specs.WellFormedness.{IsOntology}
@@ -14,7 +11,7 @@ use Rattle.closure.specs.Groups.{least_same}
 use Rattle.closure.proofs.Groups.{same_as_least}
 use Rattle.exactness.specs.ListedInterpretation.{IsListedInterpretation}
 use Rattle.generated_part.specs.GeneratedPart.{IsGenerated}
-use Rattle.generated_part.proofs.Keeping.{same, model_kept}
+use Rattle.generated_part.proofs.Keeping.{same, model_kept, one_place}
 use Rattle.interpretation_spec.specs.NamedInterpretation.{interpretation_of}
 use Rattle.interpretation_spec.specs.Interpretation.{Interpretation, IsInterpretation, IsIn, IsModel}
 use Rattle.interpretation_spec.specs.NumberedInterpretation.{NumberedInterpretation, IsNumberedInterpretation}
@@ -27,19 +24,6 @@ use Rattle.program.specs.declared.question.Asked.{Asked}
 use Rattle.program.specs.declared.question.Asked.TheVariants as asked
 use Rattle.answers.proofs.Deriving.{named_tree}
 use Rattle.classification.proofs.Leading.{fact_of_leader}
-
--- a number stands at one place of a list that ascends
-one_place : (xs : List ℕ) → IsStrictlyIncreasing xs → (m n x : ℕ) → slice_get xs m ≡ Some x → slice_get xs n ≡ Some x → m ≡ n
-one_place xs up m n x g h = elim (cases_order m n) [
-  | inl e ↦ e
-  | inr (inl l) ↦ absurd (earlier m n l g h)
-  | inr (inr l) ↦ absurd (earlier n m l h g)
-]
-  where
-    earlier : (m n : ℕ) → m < n → slice_get xs m ≡ Some x → slice_get xs n ≡ Some x → ⊥
-    earlier m n l g h =
-        let low : get_or xs m 0 < get_or xs n 0 = AllPairs-from_increasing xs up m n 0 l (slice_get_within xs n x h) in
-        omega (arith, low, get_or_from_slice_get xs m x 0 g, get_or_from_slice_get xs n x 0 h)
 
 module _ (o : Ontology) (questions : List ℕ) (w : IsOntology o) (x : Context) (p : NumberedInterpretation) (new : ℕ) (valid : IsNumberedInterpretation p) (part : IsPartFor o questions x p new) where
   i : Interpretation

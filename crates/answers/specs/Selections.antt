@@ -55,6 +55,10 @@ PutsIndividual fact a f = PutsContext fact (contexts.Individual (record { 0 = a 
 abbrev pub PutsInClass : Ontology → code.Context → Fact → ℕ → Type 0
 PutsInClass o x fact n = (f : ℕ) × IsClassAt o n f × PutsContext fact x f
 
+-- the fact puts the class of number n in the expression of number f
+abbrev pub PutsClass : Ontology → ℕ → Fact → ℕ → Type 0
+PutsClass o f fact n = (e : ℕ) × IsClassAt o n e × PutsExpression fact e f
+
 -- the fact answers the question with this number: of a class that the expression is put in, or that is put in the expression or in
 -- owl:Nothing, of an individual that is put in the expression, or of a class that the individual is put in
 abbrev pub Answers : Ontology → Selection → Fact → ℕ → Type 0

@@ -1,7 +1,7 @@
 //! Marks on the numbers that facts answer with.
 ghost use Rattle.answers.specs.Names.{IsMarked};
 ghost use Rattle.answers.specs.Neighbours.{AreMarksAmong, AreMarksOf};
-ghost use Rattle.answers.specs.Selections.{Answers, AreGiven, FollowsFor, IsAnswer, IsEvery, IsOnly, PutsContext, PutsExpression, PutsInClass, PutsIndividual, context_asked, names_asked};
+ghost use Rattle.answers.specs.Selections.{Answers, AreGiven, FollowsFor, IsAnswer, IsEvery, IsOnly, PutsClass, PutsContext, PutsExpression, PutsInClass, PutsIndividual, context_asked, names_asked};
 ghost use Rattle.answers.specs.declared.selection.Selection.TheVariants as asked;
 ghost use Rattle.axioms.specs.Ontology.{nothing};
 ghost use Rattle.classification.specs.Lists.{SomeFact};
@@ -20,8 +20,6 @@ use number_sets::Row;
 // ---- by one fact
 
 /// The expression that the fact puts in the class; `None` where it puts none in it.
-// What is asked of all facts is inlined: a call for each would cost more than the look at it.
-#[inline(always)]
 fn expression_in(fact: &StoredFact, class: ExprId) -> Option<ExprId>
     ensures { MatchOption result ((e : ℕ) → PutsExpression fact.now e class.0 → ⊥) (λ e. PutsExpression fact.now e.0 class.0) }
 {
@@ -31,30 +29,16 @@ fn expression_in(fact: &StoredFact, class: ExprId) -> Option<ExprId>
     }
 }
 
-/// The expression that the fact puts in the class or in `owl:Nothing`; `None` where it puts none in either.
-#[inline(always)]
-fn expression_below(fact: &StoredFact, class: ExprId) -> Option<ExprId>
-    ensures { MatchOption result ((e : ℕ) → (PutsExpression fact.now e class.0 ⊎ PutsExpression fact.now e nothing) → ⊥)
-        (λ e. PutsExpression fact.now e.0 class.0 ⊎ PutsExpression fact.now e.0 nothing) }
+/// The class below the expression by the fact.
+fn below(ontology: &Ontology, above: ExprId, fact: &StoredFact) -> Option<usize>
+    ensures { IsOnly (PutsClass ontology.now above.0 fact.now) result }
 {
-    match expression_in(fact, class) {
-        Some(expression) => Some(expression),
-        None => expression_in(fact, ExprId::NOTHING),
-    }
-}
-
-/// The class below the expression or below `owl:Nothing` by the fact.
-#[inline(always)]
-fn below(ontology: &Ontology, expression: ExprId, fact: &StoredFact) -> Option<usize>
-    ensures { IsAnswer ontology.now (asked.Below expression) fact.now result }
-{
-    let below = expression_below(fact, expression)?;
+    let below = expression_in(fact, above)?;
     let class = ontology.class_of(below)?;
     Some(class.index())
 }
 
 /// The individual that the fact puts in the class; `None` where it puts none in it.
-#[inline(always)]
 fn individual_in(fact: &StoredFact, class: ExprId) -> Option<IndId>
     ensures { MatchOption result ((a : ℕ) → PutsIndividual fact.now a class.0 → ⊥) (λ a. PutsIndividual fact.now a.0 class.0) }
 {
@@ -65,7 +49,6 @@ fn individual_in(fact: &StoredFact, class: ExprId) -> Option<IndId>
 }
 
 /// The individual in the expression by the fact.
-#[inline(always)]
 fn member(ontology: &Ontology, expression: ExprId, fact: &StoredFact) -> Option<usize>
     ensures { IsAnswer ontology.now (asked.Members expression) fact.now result }
 {
@@ -102,7 +85,7 @@ pub(crate) fn mark(marks: &mut Row, n: Option<usize>)
     }
 }
 
-// ---- by the facts of one context, and by all facts
+// ---- by the facts of one context, and by those of one class
 
 /// Of the marked classes, marks on those that a fact puts the context in. Others may have marks, too.
 fn marked_above(indexed: &Indexed<'_>, context: Context, marks: &Row) -> Result<Row, Memory>
@@ -119,28 +102,46 @@ fn marked_above(indexed: &Indexed<'_>, context: Context, marks: &Row) -> Result<
     Ok(found)
 }
 
-/// Of the marked classes, marks on those that a fact puts in the expression or in `owl:Nothing`. Others may have marks, too.
-fn marked_below(closed: &Closed<'_>, expression: ExprId, marks: &Row) -> Result<Row, Memory>
-    ensures { IfOk result (λ found. AreGiven (Answers closed.now.ontology (asked.Below expression)) closed.now.saturation.state.facts marks.now found) }
+/// Marks the classes that a fact puts in the expression. Facts of other classes are passed over by their tags.
+fn mark_below(indexed: &Indexed<'_>, above: ExprId, found: &mut Row)
+    ensures long { length found.new ≡ length found.old }
+    ensures exact { (n : ℕ) → n < length found.old → IsMarked found.new n ↔ (IsMarked found.old n ⊎ SomeFact indexed.now.saturation.state.facts (λ fact. PutsClass indexed.now.ontology above.0 fact n)) }
 {
+    let closed = indexed.closed();
     let ontology = closed.ontology();
     let facts = closed.facts();
-    let mut found = Row::new(closed.allocator(), marks.len())?;
-    for fact in facts {
-        mark(&mut found, below(ontology, expression, fact));
+    let mut from: usize = 0;
+    while let Some(number) = indexed.next_in(Class2::Expr(above), from) {
+        let fact = &facts[number as usize];
+        mark(found, below(ontology, above, fact));
+        from = number as usize + 1;
     }
+}
+
+/// Of the marked classes, marks on those that a fact puts in the expression or in `owl:Nothing`. Others may have marks, too.
+fn marked_below(indexed: &Indexed<'_>, expression: ExprId, marks: &Row) -> Result<Row, Memory>
+    ensures { IfOk result (λ found. AreGiven (Answers indexed.now.ontology (asked.Below expression)) indexed.now.saturation.state.facts marks.now found) }
+{
+    let mut found = Row::new(indexed.closed().allocator(), marks.len())?;
+    mark_below(indexed, expression, &mut found);
+    mark_below(indexed, ExprId::NOTHING, &mut found);
     Ok(found)
 }
 
-/// Of the marked individuals, marks on those that a fact puts in the expression. Others may have marks, too.
-fn marked_members(closed: &Closed<'_>, expression: ExprId, marks: &Row) -> Result<Row, Memory>
-    ensures { IfOk result (λ found. AreGiven (Answers closed.now.ontology (asked.Members expression)) closed.now.saturation.state.facts marks.now found) }
+/// Of the marked individuals, marks on those that a fact puts in the expression. Others may have marks, too. Facts of other classes are
+/// passed over by their tags.
+fn marked_members(indexed: &Indexed<'_>, expression: ExprId, marks: &Row) -> Result<Row, Memory>
+    ensures { IfOk result (λ found. AreGiven (Answers indexed.now.ontology (asked.Members expression)) indexed.now.saturation.state.facts marks.now found) }
 {
+    let closed = indexed.closed();
     let ontology = closed.ontology();
     let facts = closed.facts();
     let mut found = Row::new(closed.allocator(), marks.len())?;
-    for fact in facts {
+    let mut from: usize = 0;
+    while let Some(number) = indexed.next_in(Class2::Expr(expression), from) {
+        let fact = &facts[number as usize];
         mark(&mut found, member(ontology, expression, fact));
+        from = number as usize + 1;
     }
     Ok(found)
 }
@@ -210,10 +211,10 @@ fn found_members(indexed: &Indexed<'_>, expression: ExprId, marks: &Row) -> Resu
 
 // ---- by what costs less
 
-/// So many facts are gone over at the cost of looking for one, about.
-const FACTS_A_SEARCH: usize = 128;
+/// So many facts are gone over by their tags at the cost of looking for one, about.
+const FACTS_A_SEARCH: usize = 1024;
 
-/// Whether looking for each marked number costs less than going over all facts.
+/// Whether looking for each marked number costs less than going over all facts by their tags.
 fn are_few(closed: &Closed<'_>, marks: &Row) -> bool
     ensures { IsTrue result → length marks.now ≤ 2 ^ 32 }
 {
@@ -235,11 +236,11 @@ fn answers_among(indexed: &Indexed<'_>, question: Selection, marks: &Row) -> Res
         Selection::Below(expression) if are_few(closed, marks) => found_below(
             indexed, expression, marks,
         ),
-        Selection::Below(expression) => marked_below(closed, expression, marks),
+        Selection::Below(expression) => marked_below(indexed, expression, marks),
         Selection::Members(expression) if are_few(closed, marks) => found_members(
             indexed, expression, marks,
         ),
-        Selection::Members(expression) => marked_members(closed, expression, marks),
+        Selection::Members(expression) => marked_members(indexed, expression, marks),
     }
 }
 

@@ -50,14 +50,11 @@ module _ (o : Ontology) (asked : List ℕ) (e f : ℕ) (root : IsRoot o asked (E
     class_of_root : {c : Class2} {x : Context} → x ≡ Expression f → IsFact o asked (In c x) → IsFact o asked (In c (Expression e))
     class_of_root is (given older (by.in_thing context) are) = fact.in_thing (fact.root root)
     class_of_root is (given older (by.in_itself context) are) = subst (λ n. IsFact o asked (In (Whole n) (Expression e))) (sym (same_number is)) below
-    class_of_root is (given older (by.asserted form) are) = no_expression is
     class_of_root is (given older (by.subsumed a form) (more p none)) = fact.subsumed a form (class_of_root is p)
     class_of_root is (given older (by.both a b form) (more p (more q none))) = fact.both a b form (class_of_root is p) (class_of_root is q)
     class_of_root is (given older (by.predecessor r a q y form path) (more edge (more p none))) = backwards r a q y form path p (λ same. class_of_root same p) (edge_of_root is edge)
     class_of_root is (given older (by.unsatisfiable r y) (more edge (more p none))) = empty r y p (λ same. class_of_root same p) (edge_of_root is edge)
-    class_of_root is (given older (by.same_class a same) are) = no_expression is
-    class_of_root is (given older (by.different b form same) are) = no_expression is
-    class_of_root is (given older (by.denied r b q form path) are) = no_expression is
+    class_of_root is _ = no_expression is
 
     edge_of_root : {r : Property2} {x y : Context} → x ≡ Expression f → IsFact o asked (Edge x r y) → Starts r y
     edge_of_root is (given older (by.asserted_edge form) are) = no_expression is

@@ -11,7 +11,7 @@ use Rattle.facts.specs.declared.contexts.Fact.{Fact}
 use Rattle.facts.specs.declared.contexts.Fact.TheVariants.{In, Edge}
 use Rattle.normal_forms.specs.declared.forms.Class2.TheVariants as classes
 use Rattle.normal_forms.specs.declared.forms.Form.{Form}
-use Rattle.normal_forms.specs.declared.forms.Form.TheVariants.{N1, N2, N3, N4, N5, N6, N7, N8, N9, N10, N12}
+use Rattle.normal_forms.specs.declared.forms.Form.TheVariants.{N5}
 
 abbrev pub Decided : Type 0 → Type 0
 Decided P = P ⊎ (P → ⊥)
@@ -80,16 +80,7 @@ Reach (f ∷ fs) p q = Reach fs p q ⊎ Via f (λ s. Reach fs p s) (λ t. Reach 
 
 via : (f : Form) {P Q : ℕ → Type 0} → ((n : ℕ) → Decided (P n)) → ((n : ℕ) → Decided (Q n)) → Decided (Via f P Q)
 via (N5 s t) p q = ⊎_elim (λ h. ⊎_elim (λ k. inl (h, k)) (λ n. inr (λ w. n w.1)) (q t.0)) (λ n. inr (λ w. n w.0)) (p s.0)
-via (N1 _ _) p q = inr (λ w. w)
-via (N2 _ _ _) p q = inr (λ w. w)
-via (N3 _ _ _) p q = inr (λ w. w)
-via (N4 _ _ _) p q = inr (λ w. w)
-via (N6 _ _ _) p q = inr (λ w. w)
-via (N7 _) p q = inr (λ w. w)
-via (N8 _ _) p q = inr (λ w. w)
-via (N9 _ _ _) p q = inr (λ w. w)
-via (N10 _ _) p q = inr (λ w. w)
-via (N12 _ _ _) p q = inr (λ w. w)
+via _ p q = inr (λ w. w)
 
 pub reach : (fs : List Form) (p q : ℕ) → Decided (Reach fs p q)
 reach [] p q = cases_eq p q
@@ -104,16 +95,7 @@ reach_same (f ∷ fs) p = inl (reach_same fs p)
 
 via_more : (f : Form) (P Q R : ℕ → Type 0) → ((n : ℕ) → Q n → R n) → Via f P Q → Via f P R
 via_more (N5 s t) P Q R h w = (w.0, h t.0 w.1)
-via_more (N1 _ _) P Q R h w = w
-via_more (N2 _ _ _) P Q R h w = w
-via_more (N3 _ _ _) P Q R h w = w
-via_more (N4 _ _ _) P Q R h w = w
-via_more (N6 _ _ _) P Q R h w = w
-via_more (N7 _) P Q R h w = w
-via_more (N8 _ _) P Q R h w = w
-via_more (N9 _ _ _) P Q R h w = w
-via_more (N10 _ _) P Q R h w = w
-via_more (N12 _ _ _) P Q R h w = w
+via_more _ P Q R h w = w
 
 -- where one of the forms puts s below t, and s is reached, t is reached too
 pub reach_on : (fs : List Form) (s t : PropId) (n p : ℕ) → slice_get fs n ≡ Some (N5 s t) → Reach fs p s.0 → Reach fs p t.0

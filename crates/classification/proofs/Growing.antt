@@ -1,5 +1,5 @@
 -- Lists to which numbers are added fact by fact.
-use Rattle.std.proofs.Common.{◌≡◌, ◌↔◌, ◌==◌, ◌||◌, ℕ, zero, suc, ◌+◌, ◌<◌, List, [], ◌∷◌, ◌++◌, length, set, replicate, take, slice_get, Some, true, false, ◌⊎◌, inl, inr, refl, sym, ap, ◌∙◌, subst}
+use Rattle.std.proofs.Common.{◌≡◌, ◌↔◌, ◌==◌, ◌||◌, ℕ, ◌+◌, ◌<◌, List, [], ◌∷◌, ◌++◌, length, set, replicate, take, slice_get, Some, true, false, ◌⊎◌, inl, inr, refl, sym, ap, ◌∙◌, subst}
 use Rattle.std.proofs.lemmas.Bool.{cases_eq, eq-eqb, eqb-true, false≢true, or_cases, or_left, or_right}
 use Rattle.std.specs.List.{list_any}
 use Rattle.std.proofs.lemmas.List.{get_or-set_same, get_or-set_other, length-set, length-replicate}
@@ -16,6 +16,7 @@ use Rattle.facts.specs.declared.contexts.Context.TheVariants as contexts
 use Rattle.normal_forms.specs.declared.forms.Class2.TheVariants.{Expr}
 use Rattle.taxonomy.specs.Relation.{is_listed}
 use Rattle.classification.specs.Lists.{SomeFact, Adds, AreListsBy, PutsBelow, PutsInto, IsAboutIndividualOf}
+use Rattle.cert_check.proofs.Listwise.{no_list}
 
 -- ---- one more number
 
@@ -106,17 +107,12 @@ one_more_fact P facts last = (
     inl_more : (n : ℕ) (fact : Fact) → slice_get facts n ≡ Some fact → P fact → SomeFact (facts ++ last ∷ []) P
     inl_more n fact at p = (n, fact, keeps_push facts last n fact at, p)
 
-no_number : (count c d : ℕ) → is_listed (replicate count []) c d ≡ false
-no_number zero c d = refl
-no_number (suc count) zero d = refl
-no_number (suc count) (suc c) d = no_number count c d
-
 module _ (puts : Fact → ℕ → ℕ → Type 0) (count : ℕ) where
   pub lists_start : (lists : List (List ℕ)) → lists ≡ replicate count [] → AreListsBy puts count [] lists
   lists_start lists e = subst (AreListsBy puts count []) (sym e) (record { long = length-replicate count []; each = none })
     where
       none : (c d : ℕ) → (is_listed (replicate count []) c d ≡ true) ↔ SomeFact [] (λ fact. puts fact c d)
-      none c d = (λ t. absurd (false≢true (sym (no_number count c d) ∙ t)), λ (n, fact, at, p). absurd (none-some fact at))
+      none c d = (λ t. absurd (false≢true (sym (no_list count c d) ∙ t)), λ (n, fact, at, p). absurd (none-some fact at))
 
   pub lists_more : (facts : List Fact) (i : ℕ) (fact : Fact) → slice_get facts i ≡ Some fact → (old new : List (List ℕ))
       → AreListsBy puts count (take i facts) old → Adds (puts fact) old new → AreListsBy puts count (take (i + 1) facts) new

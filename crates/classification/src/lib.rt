@@ -5,6 +5,7 @@ mod classification;
 mod consistent;
 mod pairs;
 mod relation;
+mod room;
 mod types;
 
 pub use classification::{Classification, Found, Summary, classified, what_follows};

@@ -4,6 +4,7 @@ ghost use Rattle.engine.specs.Saturations.{IsUnasked};
 ghost use Rattle.std.specs.Prelude.{◌≡◌, IfOk, OnOk, length};
 
 use crate::pairs::class_pair;
+use crate::room::lists_of_classes;
 use axioms::{Memory, Ontology};
 use engine::Closed;
 use facts::StoredFact;
@@ -31,7 +32,7 @@ fn class_lists(
 ) -> Result<PackedLists, Memory>
     ensures { IfOk result (λ lists. AreClassLists ontology.now facts.now lists) }
 {
-    let mut lists = OpenLists::new(alloc, ontology.classes().len())?;
+    let mut lists = lists_of_classes(alloc, ontology, facts)?;
     for fact in facts {
         put_below(ontology, &mut lists, fact)?;
     }

@@ -4,6 +4,7 @@ ghost use Rattle.engine.specs.Saturations.{IsUnasked};
 ghost use Rattle.std.specs.Prelude.{◌≡◌, All, IfOk, OnOk, length};
 
 use crate::pairs::type_pair;
+use crate::room::lists_of_individuals;
 use axioms::{Memory, Ontology};
 use engine::Closed;
 use facts::StoredFact;
@@ -32,7 +33,7 @@ fn type_lists(
     requires { All (IsAboutIndividualOf ontology.now) facts.now }
     ensures { IfOk result (λ lists. AreTypeLists ontology.now facts.now lists) }
 {
-    let mut lists = OpenLists::new(alloc, ontology.individuals().len())?;
+    let mut lists = lists_of_individuals(alloc, ontology, facts)?;
     for fact in facts {
         put_into(ontology, &mut lists, fact)?;
     }

@@ -10,7 +10,7 @@ use Rattle.number_sets.specs.Pieces.{list_at}
 use Rattle.number_sets.proofs.Members.{nothing_past}
 use Rattle.certificate.specs.Writability.{Ascends}
 use Rattle.countermodel.specs.Members.{AreRowsOf}
-use Rattle.countermodel.proofs.Numbers.{Ascends-push}
+use Rattle.exactness.proofs.Trimmed.{Ascends-push}
 
 -- the row has the numbers of its list in order
 abbrev IsRowOf : List (List ℕ) → ℕ × List ℕ → Type 0

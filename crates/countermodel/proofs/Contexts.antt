@@ -5,7 +5,7 @@ use Rattle.std.proofs.lemmas.List.Elements.{All-contains}
 use Rattle.axioms.specs.Ontology.{Ontology, Axiom, ClassAssertion, PropertyAssertion, thing}
 use Rattle.axioms.specs.WellFormedness.{IsOntology, IsAxiomOf}
 use Rattle.normal_forms.specs.Forms.{Class2, Whole, Property, N8, N9, IsForm, class_assertion, property_assertion}
-use Rattle.closure.specs.Closure.{Context, Expression, Individual, Fact, In, Edge, IsRoot, Gives, in_thing, in_itself, asserted, asserted_edge, subsumed, both, successor, predecessor, unsatisfiable, chained, loop, IsFact, AreFacts, given, none, more, same_class, same_source, same_target, different, denied, IsContext}
+use Rattle.closure.specs.Closure.{Context, Expression, Individual, Fact, In, Edge, IsRoot, Gives, in_thing, in_itself, asserted, asserted_edge, subsumed, both, successor, chained, loop, IsFact, AreFacts, given, none, more, same_class, same_source, same_target, different, IsContext}
 use Rattle.closure.proofs.Facts as fact
 use Rattle.exactness.proofs.Facts.{fact_derivable}
 use Rattle.countermodel.specs.Sets.{IsWithin}
@@ -38,15 +38,13 @@ module _ (o : Ontology) (asked : List ℕ) (h : IsOntology o) where
   given_by (subsumed a form) fs f ps = ps.0
   given_by (both a b form) fs f ps = ps.0
   given_by (successor {x = x} {r = r} a form) fs f ps = (ps.0, fact.target x (Property r) f)
-  given_by (predecessor r a q y form b) fs f ps = ps.0.0
-  given_by (unsatisfiable r y) fs f ps = ps.0.0
   given_by (chained r s p q y form b c) fs f ps = (ps.0.0, ps.1.0.1)
   given_by {older = older} (loop r form c) fs f ps = ((older, c, fs), (older, c, fs))
   given_by (same_class {b = b} a same) fs f ps = individual_root b (fact_derivable o asked h f).0
   given_by (same_source {b = b} a same) fs f ps = (individual_root b (fact_derivable o asked h f).0, ps.0.1)
   given_by (same_target {b = b} a same) fs f ps = (ps.0.0, individual_root b (fact_derivable o asked h f).1)
   given_by (different {a = a} b form same) fs f ps = individual_root a (fact_derivable o asked h f).0
-  given_by (denied r b q form below) fs f ps = ps.0.0
+  given_by _ fs f ps = ps.0.0
 
   mutual
     of_contexts : {f : Fact} → IsFact o asked f → OfContexts f

@@ -13,7 +13,7 @@ use Rattle.exactness.specs.ListedInterpretation.{IsBefore}
 use Rattle.countermodel.specs.Members.{IsOwnElement}
 use Rattle.countermodel.specs.MemberRows.{AreOwnClaims}
 use Rattle.exactness.proofs.Listed.{one_place}
-use Rattle.countermodel.proofs.Numbers.{Ascends-push}
+use Rattle.exactness.proofs.Trimmed.{Ascends-push}
 
 -- the claims of the first expressions
 pub record AreFirstClaims (o : Ontology) (elements : List Context) (count : ℕ) (claims : List (ℕ × ℕ)) : Type 0 where

@@ -1,20 +1,18 @@
 -- The interpretation whose members are listed.
-use Rattle.std.proofs.Common.{◌≡◌, ◌↔◌, ◌⊎◌, inl, inr, ℕ, zero, suc, ◌+◌, ◌<◌, ◌≤◌, ◌==◌, ◌||◌, ◌^◌, Bool, true, false, List, [], ◌∷◌, ◌++◌, length, get_or, map, slice_get, Option, Some, unwrap_or, All, Contains, refl, sym, ap, ◌∙◌, subst, arith, eqb-true}
+use Rattle.std.proofs.Common.{◌≡◌, ◌↔◌, ◌⊎◌, inl, inr, ℕ, zero, suc, ◌+◌, ◌<◌, ◌≤◌, ◌==◌, ◌||◌, ◌^◌, Bool, true, false, List, [], ◌∷◌, ◌++◌, length, get_or, map, slice_get, Some, All, Contains, refl, sym, ap, ◌∙◌, subst, arith, eqb-true}
 use Rattle.std.specs.List.{list_any, enumerate_from}
-use Rattle.std.specs.Str.{bytes_eq}
-use Rattle.std.proofs.lemmas.Bool.{cases_lt, eq-eqb, or_cases, false≢true, false_from_ne_true}
+use Rattle.std.proofs.lemmas.Bool.{cases_lt, eq-eqb, or_cases, false≢true}
 use Rattle.std.proofs.lemmas.List.{get_or_past}
 use Rattle.std.proofs.lemmas.List.Elements.{All-append, All-cons, All-nil, All-map}
-use Rattle.std.proofs.lemmas.Option.{none-some, same_Some, slice_get-get_or, slice_get_within, get_or_from_slice_get}
-use Rattle.std.proofs.lemmas.Slice.Eq.{bytes_eq-Decides}
+use Rattle.std.proofs.lemmas.Option.{slice_get-get_or, slice_get_within, get_or_from_slice_get}
 use Rattle.lemmas.proofs.Members.{Contains-none, Contains-first, Contains-later, Contains-cons_cases, Contains-from_slice_get}
-use Rattle.lemmas.proofs.Places.{slice_get_there}
 use Rattle.axioms.specs.Expression.{Iri}
 use Rattle.axioms.specs.Growth.{IsBounded}
 use Rattle.axioms.specs.Ontology.{Ontology, Class, IsClassAt, name_at, thing}
-use Rattle.axioms.specs.WellFormedness.{IsOntology, AreDistinct}
+use Rattle.axioms.specs.WellFormedness.{IsOntology}
 use Rattle.interpretation_spec.specs.Interpretation.{Interpretation}
 use Rattle.interpretation_spec.specs.NamedInterpretation.{number_of}
+use Rattle.interpretation_spec.proofs.Names.{number_of-name_at}
 use Rattle.certificate.specs.Certificate.{Listed}
 use Rattle.certificate.specs.Writability.{IsListedOf, IsNamedClass, listed_numbers}
 use Rattle.listed_model.specs.Listing.{IsListing, elements_of, targets_of}
@@ -30,19 +28,6 @@ use Rattle.countermodel.specs.PairRows.{ArePairRows}
 use Rattle.exactness.proofs.Listed.{one_place}
 
 -- ---- numbers of names
-
-number_at : (names : List Iri) (c : ℕ) (name : Iri) → slice_get names c ≡ Some name → ((m : ℕ) → slice_get names m ≡ Some name → m ≡ c) → number_of names name ≡ c
-number_at [] c name g only = absurd (none-some name g)
-number_at (x ∷ xs) zero name g only = rw ((bytes_eq-Decides x name).1 (same_Some x name g)) refl
-number_at (x ∷ xs) (suc c) name g only =
-    let other : x ≡ name → ⊥ = λ e. (let at : 0 ≡ suc c = only 0 (ap Some e) in absurd (omega arith)) in
-    let apart : bytes_eq x name ≡ false = false_from_ne_true (bytes_eq x name) (λ e. other ((bytes_eq-Decides x name).0 e)) in
-    rw apart (ap suc (number_at xs c name g (λ m h. (let at : suc m ≡ suc c = only (suc m) h in omega arith))))
-
-number_is : (names : List Iri) → AreDistinct names → (c : ℕ) → c < length names → number_of names (name_at names c) ≡ c
-number_is names distinct c l =
-    let (name, g) = slice_get_there names c l in
-    ap (λ (o : Option Iri). number_of names (unwrap_or o [])) g ∙ number_at names c name g (λ m h. distinct m c name h g)
 
 -- ---- members of rows
 
@@ -103,7 +88,7 @@ module _ (o : Ontology) (asked : List ℕ) (w : IsOntology o) (consistent : IsCo
   unfolding i
   class_of c e m node =
       let name = name_at o.names.classes c in
-      class_is c e m node (number_of o.names.classes name) (cases_lt (number_of o.names.classes name) (length o.names.classes)) (number_is o.names.classes w.distinct_classes c (w.nodes e (Class c) node))
+      class_is c e m node (number_of o.names.classes name) (cases_lt (number_of o.names.classes name) (length o.names.classes)) (number_of-name_at o.names.classes w.distinct_classes c (w.nodes e (Class c) node))
 
   member_is : (c e m : ℕ) (x : Context) → IsClassAt o c e → slice_get elements m ≡ Some x → (is_member rows e m ≡ true) ↔ IsFact o asked (In (Whole e) x)
   unfolding is_member
@@ -115,11 +100,11 @@ module _ (o : Ontology) (asked : List ℕ) (w : IsOntology o) (consistent : IsCo
 
   property_of : (r m n : ℕ) → r < length o.names.properties → (i.property (name_at o.names.properties r) m n ≡ true) ↔ Contains (targets_of pairs r m) n
   unfolding i
-  property_of r m n l = rw (number_is o.names.properties w.distinct_properties r l) (from_test (targets_of pairs r m) n, to_test (targets_of pairs r m) n)
+  property_of r m n l = rw (number_of-name_at o.names.properties w.distinct_properties r l) (from_test (targets_of pairs r m) n, to_test (targets_of pairs r m) n)
 
   individual_of : (a : ℕ) → a < length o.names.individuals → i.individual (name_at o.names.individuals a) ≡ get_or numbers a 0
   unfolding i
-  individual_of a l = ap (λ n. get_or numbers n 0) (number_is o.names.individuals w.distinct_individuals a l)
+  individual_of a l = ap (λ n. get_or numbers n 0) (number_of-name_at o.names.individuals w.distinct_individuals a l)
 
   inhabited : 0 < length elements
   inhabited =

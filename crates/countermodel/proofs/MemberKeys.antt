@@ -19,7 +19,7 @@ use Rattle.countermodel.specs.Members.{AddsMember, AreRowsBy, HasKey, HasNoMembe
 use Rattle.countermodel.proofs.Ends.{ends}
 use Rattle.countermodel.proofs.LastRow.{one_last}
 use Rattle.countermodel.proofs.Members.{one_member}
-use Rattle.countermodel.proofs.Numbers.{Ascends-push}
+use Rattle.exactness.proofs.Trimmed.{Ascends-push}
 
 -- a class with its elements
 abbrev pub Row : Type 0

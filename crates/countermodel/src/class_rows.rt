@@ -6,7 +6,7 @@ ghost use Rattle.countermodel.specs.FactsOf.{AreFactsOf};
 ghost use Rattle.countermodel.specs.Sinks.{Adds};
 ghost use Rattle.countermodel.specs.Members.{AreMembers, AreOwnClasses, AreRowsOf, HasNoMember, IsMember};
 ghost use Rattle.countermodel.specs.MemberRows.{AreClassRows};
-ghost use Rattle.std.specs.Prelude.{◌≡◌, ◌≤◌, ◌^◌, AllPairs, IfOk, MatchOption, OnOk, length, map};
+ghost use Rattle.std.specs.Prelude.{◌≡◌, ◌≤◌, ◌+◌, ◌-◌, ◌^◌, [], AllPairs, IfOk, MatchOption, OnOk, length, map, min, replicate, slice_index, slice_set};
 
 use crate::ascending::ascending;
 use crate::elements::Elements;
@@ -54,6 +54,50 @@ fn member_by(own: &Row, elements: &Elements, fact: &StoredFact) -> Option<(ExprI
     }
 }
 
+/// Counts one more at that number, if there is one; but never more than 2^32 - 1.
+fn count(counts: &mut [u32], number: usize)
+    ensures { counts.new ≡ slice_set counts.old number (min (slice_index counts.old number + 1) (2 ^ 32 - 1)) }
+{
+    if number < counts.len() {
+        counts[number] = counts[number].saturating_add(1);
+    }
+}
+
+/// For each expression that is such a class how many facts put something into it. The numbers decide nothing but how much memory is
+/// asked for at once.
+fn member_counts(
+    alloc: Global,
+    ontology: &Ontology,
+    own: &Row,
+    facts: &[StoredFact],
+) -> Result<Vec<u32>, Memory>
+    ensures { IfOk result (λ counts. length counts.items ≡ length ontology.now.nodes) }
+{
+    let mut counts = vec![in alloc; 0u32; ontology.expression_count()]?;
+    for fact in facts {
+        match fact.get() {
+            Fact::In(Class2::Expr(class), _) if own.contains(class.index()) => {
+                count(&mut counts, class.index());
+            }
+            _ => {}
+        }
+    }
+    Ok(counts)
+}
+
+/// An empty list for each expression, with room for the elements that the facts put into it where it is such a class.
+fn empty_lists(
+    alloc: Global,
+    ontology: &Ontology,
+    own: &Row,
+    facts: &[StoredFact],
+) -> Result<OpenLists, Memory>
+    ensures { IfOk result (λ lists. lists ≡ replicate (length ontology.now.nodes) []) }
+{
+    let room = member_counts(alloc, ontology, own, facts)?;
+    Ok(OpenLists::with_room(alloc, &room)?)
+}
+
 /// For each expression that is such a class the elements that the facts put into it.
 fn members(
     alloc: Global,
@@ -66,7 +110,7 @@ fn members(
     ensures length { IfOk result (λ lists. length lists ≡ length ontology.now.nodes) }
 {
     let own = own_classes(alloc, ontology)?;
-    let mut lists = OpenLists::new(alloc, ontology.expression_count())?;
+    let mut lists = empty_lists(alloc, ontology, &own, facts)?;
     for fact in facts {
         if let Some((class, element)) = member_by(&own, elements, fact) {
             lists.push(class.index(), element)?;

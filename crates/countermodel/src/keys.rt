@@ -4,6 +4,7 @@ ghost use Rattle.std.specs.Prelude.{◌↔◌, ◌≡◌, ◌<◌, ◌/◌, ◌%
 
 use crate::pair::Pair;
 use axioms::{Memory, PropId};
+use number_sets::sort_ascending;
 use std::alloc::Global;
 
 /// The number of a pair among those of its property: by these numbers they are in order.
@@ -32,7 +33,6 @@ pub(crate) fn keys_in_order(alloc: Global, list: &[u64]) -> Result<Vec<u64>, Mem
 {
     let mut keys = Vec::with_capacity(alloc, list.len())?;
     keys.extend_from_slice(list)?;
-    keys.sort_unstable();
-    keys.dedup();
+    sort_ascending(&mut keys);
     Ok(keys)
 }

@@ -1,4 +1,5 @@
 pub mod Saying
 pub mod Saturating
 pub mod GrownSaturations
+pub mod Counting
 pub mod NothingNew

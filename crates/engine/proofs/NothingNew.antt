@@ -1,20 +1,15 @@
 -- How many facts are served, and that what brings nothing new leaves nothing pending that was not.
-use Rattle.std.proofs.Common.{◌≡◌, ℕ, ◌<◌, ◌≤◌, ⊎_elim, Bool, true, false, List, [], ◌∷◌, length, get_or, slice_get, Option, Some, Contains, All, eqb, refl, sym, ap, ◌∙◌, arith}
-use Rattle.std.specs.List.{IsDistinct, range_with_len}
+use Rattle.std.proofs.Common.{◌≡◌, ℕ, ◌<◌, ◌≤◌, ⊎_elim, Bool, true, false, List, [], ◌∷◌, length, slice_get, Option, Some, Contains, All, eqb, refl, sym, ◌∙◌, arith}
+use Rattle.std.specs.List.{range_with_len}
 use Rattle.std.specs.Set.{is_member}
-use Rattle.std.specs.Cmp.{IsEquivalence}
-use Rattle.std.proofs.lemmas.Bool.{cases_lt, eqb-true, false≢true, ne_eqb}
-use Rattle.std.proofs.lemmas.Bool.Decides.{Decides-eqb, nat_tests}
+use Rattle.std.proofs.lemmas.Bool.{cases_lt, false≢true}
+use Rattle.std.proofs.lemmas.Bool.Decides.{Decides-eqb}
 use Rattle.std.proofs.lemmas.List.FromFn.{length-range_with_len}
-use Rattle.std.proofs.lemmas.Map.Keys.{IsDistinct-from_apart}
-use Rattle.std.proofs.lemmas.Map.Made.{is_member-Decides, length-le_from_is_member}
-use Rattle.std.proofs.lemmas.Map.Steps.{length-le_from_distinct_below}
-use Rattle.std.proofs.lemmas.Map.Views.{Contains-from_any}
-use Rattle.std.proofs.lemmas.Option.{slice_get-get_or}
-use Rattle.axioms.specs.WellFormedness.{AreDistinct}
+use Rattle.std.proofs.lemmas.Map.Made.{is_member-Decides}
 use Rattle.lemmas.proofs.Members.{Contains-from_slice_get, slice_get-from_Contains}
+use Rattle.number_sets.proofs.Members.{length-le_from_below}
 use Rattle.normal_forms.specs.declared.forms.Form.{Form}
-use Rattle.normal_forms.specs.declared.forms.Form.TheVariants.{N1, N2, N3, N4, N5, N6, N7, N8, N9, N10, N12}
+use Rattle.normal_forms.specs.declared.forms.Form.TheVariants.{N1, N2, N3, N4, N5, N6, N12}
 use Rattle.normal_forms.specs.declared.forms.PropId2.{PropId2}
 use Rattle.normal_forms.specs.declared.forms.PropId2.TheVariants.{Property}
 use Rattle.normal_forms.specs.Properties.{IsAtOrBelow, same, step}
@@ -30,6 +25,7 @@ use Rattle.saturate.specs.Run.{IsState, IsFinished, IsPending}
 use Rattle.saturate.specs.State.{Seen}
 use Rattle.saturate.proofs.Counting.{not_more}
 use Rattle.saturate.proofs.Runs.{all_numbers_distinct, all_numbers_within, each_served, finished_is_closure}
+use Rattle.engine.proofs.Counting.{at_most}
 use Rattle.engine.specs.Saturations.{AsksForNoServed, BringsNothing, FinishedHasNonePending}
 
 -- ---- what the new forms, lists and contexts give
@@ -41,38 +37,15 @@ module _ (old new : Problem) (nothing : BringsNothing old new) where
 
   two_before : (form : Form) (g h f : Fact) → FromTwo new form g h f → FromTwo old form g h f
   two_before (N2 a b c) (In d x) (In e y) f w = w
-  two_before (N2 a b c) (In d x) (Edge _ _ _) f w = absurd w
-  two_before (N2 a b c) (Edge _ _ _) h f w = absurd w
   two_before (N4 r a b) (Edge x q y) (In c z) f w = (was_below q (Property r) w.0, w.1, w.2, w.3)
-  two_before (N4 r a b) (Edge x q y) (Edge _ _ _) f w = absurd w
-  two_before (N4 r a b) (In _ _) h f w = absurd w
   two_before (N6 r s t) (Edge x p y) (Edge z q v) f w = (was_below p r w.0, was_below q s w.1, w.2, w.3)
-  two_before (N6 r s t) (Edge x p y) (In _ _) f w = absurd w
-  two_before (N6 r s t) (In _ _) h f w = absurd w
-  two_before (N1 _ _) g h f w = absurd w
-  two_before (N3 _ _ _) g h f w = absurd w
-  two_before (N5 _ _) g h f w = absurd w
-  two_before (N7 _) g h f w = absurd w
-  two_before (N8 _ _) g h f w = absurd w
-  two_before (N9 _ _ _) g h f w = absurd w
-  two_before (N10 _ _) g h f w = absurd w
-  two_before (N12 _ _ _) g h f w = absurd w
+  two_before _ _ _ f w = absurd w
 
   one_before : (form : Form) (g f : Fact) → FromOne new form g f → FromOne old form g f
   one_before (N1 a b) (In c x) f w = w
-  one_before (N1 a b) (Edge _ _ _) f w = absurd w
   one_before (N3 a r b) (In c x) f w = w
-  one_before (N3 a r b) (Edge _ _ _) f w = absurd w
   one_before (N12 a r b) (Edge x q y) f w = (w.0, w.1, was_below q (Property r) w.2, w.3)
-  one_before (N12 a r b) (In _ _) f w = absurd w
-  one_before (N2 _ _ _) g f w = absurd w
-  one_before (N4 _ _ _) g f w = absurd w
-  one_before (N5 _ _) g f w = absurd w
-  one_before (N6 _ _ _) g f w = absurd w
-  one_before (N7 _) g f w = absurd w
-  one_before (N8 _ _) g f w = absurd w
-  one_before (N9 _ _ _) g f w = absurd w
-  one_before (N10 _ _) g f w = absurd w
+  one_before _ _ f w = absurd w
 
   concluded_before : (form : Form) (older : List Fact) (f : Fact) → Concludes new form older f → Concludes old form older f
   concluded_before form [] f w = w
@@ -115,43 +88,17 @@ module _ (old new : Problem) (nothing : BringsNothing old new) where
 
 -- ---- how many numbers there are
 
-one_equality : IsEquivalence eqb
-one_equality = record {
-  refl = λ x. grind (arith, nat_tests);
-  symm = λ x y. grind (arith, nat_tests);
-  congr = λ x y z e. grind (arith, nat_tests);
-}
-
--- a test finds no number twice
-apart_by_test : (xs : List ℕ) → AreDistinct xs → IsDistinct eqb xs
-apart_by_test xs distinct = IsDistinct-from_apart eqb xs (λ i j d low within. ne_eqb (get_or xs i d) (get_or xs j d) (λ e. absurd (different i j d low within e)))
-  where
-    different : (i j d : ℕ) → i < j → j < length xs → get_or xs i d ≡ get_or xs j d → ⊥
-    different i j d low within e =
-        let one : i ≡ j = distinct i j (get_or xs j d) (slice_get-get_or xs i d (omega (arith, low, within)) ∙ ap Some e) (slice_get-get_or xs j d within) in
-        absurd (omega (arith, one, low))
-
--- different numbers of a list are at most as many as it has
-at_most_as_many : (xs ys : List ℕ) → AreDistinct xs → ((n : ℕ) → Contains xs n → Contains ys n) → length xs ≤ length ys
-at_most_as_many xs ys distinct each =
-    length-le_from_is_member one_equality xs ys (apart_by_test xs distinct)
-    (λ n there. (is_member-Decides Decides-eqb ys n).1 (each n ((is_member-Decides Decides-eqb xs n).0 there)))
-
--- and at most as many as are below a bound
-at_most_below : (xs : List ℕ) (bound : ℕ) → AreDistinct xs → ((n : ℕ) → Contains xs n → n < bound) → length xs ≤ bound
-at_most_below xs bound distinct each = length-le_from_distinct_below xs bound (apart_by_test xs distinct) (λ n there. each n (Contains-from_any eqb-true n xs there))
-
 -- the served facts of a state are at most as many as there are facts
 few_served : (s : Seen) → IsState s → length s.served ≤ length s.facts
-few_served s state = at_most_below s.served (length s.facts) state.once state.within
+few_served s state = length-le_from_below s.served (length s.facts) state.once (λ k n at. state.within n (Contains-from_slice_get s.served k n at))
 
 -- ---- what is served
 
 -- where no new form asks for a served fact, exactly those that were served are, and each once
 pub as_many_served : (old new : Seen) → IsState old → IsState new → KeepsServed old.problem new.problem old.facts old.served new.served → AsksForNoServed old new → length new.served ≡ length old.served
 as_many_served old new before now keeps none =
-    let many : length old.served ≤ length new.served = at_most_as_many old.served new.served before.once (λ n there. (keeps n).1 (there, none n there)) in
-    let few : length new.served ≤ length old.served = at_most_as_many new.served old.served now.once (λ n there. ((keeps n).0 there).0) in
+    let many : length old.served ≤ length new.served = at_most old.served new.served before.once (λ n there. (keeps n).1 (there, none n there)) in
+    let few : length new.served ≤ length old.served = at_most new.served old.served now.once (λ n there. ((keeps n).0 there).0) in
     omega (arith, many, few)
 
 -- ---- where none is pending
@@ -168,7 +115,7 @@ all_served : (s : Seen) → IsState s → ((n : ℕ) → ¬ IsPending s n) → l
 all_served s state idle =
     let numbers = range_with_len 0 (length s.facts) in
     let many : length numbers ≤ length s.served =
-    at_most_as_many numbers s.served (all_numbers_distinct (length s.facts)) (λ n c. served_unless_pending s idle n (all_numbers_within (length s.facts) n c)) in
+    at_most numbers s.served (all_numbers_distinct (length s.facts)) (λ n c. served_unless_pending s idle n (all_numbers_within (length s.facts) n c)) in
     let few : length s.served ≤ length s.facts = few_served s state in
     omega (arith, many, few, length-range_with_len 0 (length s.facts))
 
@@ -199,6 +146,6 @@ module _ (old new : Seen) (nothing : BringsNothing old.problem new.problem) (bef
 
   pub still_finished : KeepsServed old.problem new.problem old.facts old.served new.served → IsFinished new
   still_finished keeps =
-      let many : length old.served ≤ length new.served = at_most_as_many old.served new.served before.once (served_still keeps) in
+      let many : length old.served ≤ length new.served = at_most old.served new.served before.once (served_still keeps) in
       let few : length new.served ≤ length new.facts = few_served new now in
       omega (arith, no_more_facts, all, many, few)

@@ -4,11 +4,12 @@ ghost use Rattle.engine.specs.Saturations.{IsSaturated};
 ghost use Rattle.facts.specs.Births.{reason};
 ghost use Rattle.inference.specs.PropertyClosures.{IsClosureOf};
 ghost use Rattle.inference.specs.Sameness.{AreGroupsOf};
-ghost use Rattle.std.specs.Prelude.{◌≡◌, ◌≤◌, IfNone, IfSome, Some, length, map, slice_get};
+ghost use Rattle.std.specs.Prelude.{◌≡◌, ◌≤◌, IfNone, IfSome, Some, length, slice_get};
 
 use axioms::Ontology;
 use facts::{Birth, FactId, StoredFact};
 use indexes::{Groups, IndexedProblem};
+use inference::BirthList;
 use normalise::Normal;
 use property_closure::PropertyClosure;
 use saturate::Ground;
@@ -23,24 +24,22 @@ pub struct Closed<'a> {
     pub(crate) normal: &'a Normal,
     pub(crate) ground: &'a Ground,
     pub(crate) facts: &'a [StoredFact],
-    pub(crate) births: &'a [Birth],
+    pub(crate) births: &'a BirthList,
 }
 
 impl<'a> Model for Closed<'a> {
     ghost use Rattle.engine.specs.Closed as model;
     ghost use Rattle.engine.specs.Saturations.{IsSaturated};
-    ghost use Rattle.facts.specs.Births.{reason};
-    ghost use Rattle.std.specs.Prelude.{map};
 
     ghost Value = { model.Closed };
 
     ghost view = { λ c. record {
       ontology = c.ontology.now;
-      saturation = record { normal = c.normal.now; state = record { problem = c.ground.now; facts = c.facts.now; births = map reason c.births.now } };
+      saturation = record { normal = c.normal.now; state = record { problem = c.ground.now; facts = c.facts.now; births = c.births.now.reasons } };
     } };
 
     // The facts are all that the ontology, and what is asked about, lead to.
-    ghost invariant = { λ c. IsSaturated c.ontology.now (record { normal = c.normal.now; state = record { problem = c.ground.now; facts = c.facts.now; births = map reason c.births.now } }) };
+    ghost invariant = { λ c. IsSaturated c.ontology.now (record { normal = c.normal.now; state = record { problem = c.ground.now; facts = c.facts.now; births = c.births.now.reasons } }) };
 }
 
 impl<'a> Closed<'a> {

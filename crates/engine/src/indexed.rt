@@ -1,10 +1,12 @@
 //! All that an ontology leads to, with the tables that find facts.
 ghost use Rattle.indexes.specs.FactIndex.{IsFrom, IsIn};
+ghost use Rattle.inference.specs.Tags.{NoneIn};
 ghost use Rattle.saturate.specs.ServedFacts.{AreNumbersOf};
-ghost use Rattle.std.specs.Prelude.{◌≡◌, Contains, IfNone, IfSome, Some, slice_get};
+ghost use Rattle.std.specs.Prelude.{◌≡◌, ◌<◌, ◌≤◌, Contains, IfNone, IfSome, IsNone, Some, length, slice_get};
 
 use crate::closed::Closed;
 use facts::{Context, Fact, FactId};
+use normal_forms::Class2;
 use saturate::State;
 use std::marker::Model;
 use work_list::ByContext;
@@ -43,6 +45,17 @@ impl<'a> Indexed<'a> {
         ensures none { IfNone result (Contains self.now.saturation.state.facts fact → ⊥) }
     {
         self.state.find(fact)
+    }
+
+    /// Passes over the facts from that number on that put nothing into the class: the number of one that may, if there is any. It looks
+    /// at a byte of each, and at the next where that is the class's, and needs no memory.
+    pub fn next_in(&self, class: Class2, from: usize) -> Option<u32>
+        ensures low { IfSome result (λ number. from ≤ number) }
+        ensures high { IfSome result (λ number. number < length self.now.saturation.state.facts) }
+        ensures before { IfSome result (λ number. NoneIn from number self.now.saturation.state.facts class) }
+        ensures none { IsNone result → NoneIn from (length self.now.saturation.state.facts) self.now.saturation.state.facts class }
+    {
+        self.state.next_in(class, from)
     }
 
     /// The numbers of the facts that put a class into the context. Needs no memory.

@@ -97,31 +97,21 @@ module _ (o : Ontology) (names : List Iri) where
   -- ---- what is tested is there
 
   pub individual_there : (claim : Claim) → IsClaimOf o claim → length names ≡ added_individuals claim → tested_individual n claim < length wide.names.individuals
-  individual_there (Below c d) known count = omega (arith, many, count)
-  individual_there (Apart c d) known count = omega (arith, many, count)
-  individual_there (Sources r c) known count = omega (arith, many, count)
-  individual_there (Path rs s) known count = omega (arith, many, count)
-  individual_there (Loops r) known count = omega (arith, many, count)
   individual_there (Member c a) known count = omega (arith, many, known.1)
   individual_there (Joined r a b) known count = omega (arith, many, known.1)
   individual_there (Unjoined r a b) known count = omega (arith, many, known.1)
   individual_there (One a b) known count = let low : a.0 < n = All-head (λ x. x < n) a.0 (b.0 ∷ []) known.within in omega (arith, many, low)
   individual_there (Two a b) known count = let low : a.0 < n = All-head (λ x. x < n) a.0 (b.0 ∷ []) known.within in omega (arith, many, low)
+  individual_there _ known count = omega (arith, many, count)
 
 nothing_there : (o : Ontology) → IsOntology o → 1 < length o.nodes
 nothing_there o w = slice_get_within o.nodes 1 _ w.nothing_node
 
 pub class_there : (o : Ontology) → IsOntology o → (claim : Claim) → IsClaimOf o claim → tested_class claim < length o.nodes
 class_there o w (Below c d) known = known.1
-class_there o w (Apart c d) known = nothing_there o w
 class_there o w (Sources r c) known = known.1
-class_there o w (Path rs s) known = nothing_there o w
-class_there o w (Loops r) known = nothing_there o w
 class_there o w (Member c a) known = known.0
-class_there o w (Joined r a b) known = nothing_there o w
-class_there o w (Unjoined r a b) known = nothing_there o w
-class_there o w (One a b) known = nothing_there o w
-class_there o w (Two a b) known = nothing_there o w
+class_there o w _ known = nothing_there o w
 
 -- ---- a test goes on from what its claim is about
 

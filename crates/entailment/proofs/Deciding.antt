@@ -29,12 +29,8 @@ pair_of_two : {X : Type 0} (R : X → X → Type 0) (x y : X) → AllPairs R (x 
 pair_of_two R x y h = h 0 1 x (omega arith) (omega arith)
 
 two_pairs : {X : Type 0} (R : X → X → Type 0) (x y : X) → R x y → AllPairs R (x ∷ y ∷ [])
-two_pairs R x y h zero zero d l k = absurd (omega arith)
 two_pairs R x y h zero (suc zero) d l k = h
-two_pairs R x y h zero (suc (suc n)) d l k = absurd (omega arith)
-two_pairs R x y h (suc m) zero d l k = absurd (omega arith)
-two_pairs R x y h (suc m) (suc zero) d l k = absurd (omega arith)
-two_pairs R x y h (suc m) (suc (suc n)) d l k = absurd (omega arith)
+two_pairs R x y h m n d l k = absurd (omega arith)
 
 -- the ontology of a test is well formed without what is assumed, too
 without_axioms : (o : Ontology) (names : List Iri) (axioms : List Axiom) → IsOntology o → IsOntology (with_axioms (with_individuals o names) axioms) → IsOntology (with_individuals o names)

@@ -3,7 +3,7 @@ use Rattle.std.proofs.Common.{◌≡◌, ◌↔◌, ℕ, zero, suc, ◌<◌, Lis
 use Rattle.std.proofs.lemmas.List.{get_or-map, length-map}
 use Rattle.std.proofs.lemmas.List.Elements.{All-cons, All-nil}
 use Rattle.std.proofs.lemmas.Option.{none-some, same_Some, slice_get-get_or}
-use Rattle.axioms.specs.Ontology.{Ontology, Axiom, EquivalentClasses, DisjointClasses, EquivalentProperties, SameIndividuals, DifferentIndividuals, SubClass, SubProperty, Domain, Transitive, Reflexive, ClassAssertion, PropertyAssertion, NegativePropertyAssertion}
+use Rattle.axioms.specs.Ontology.{Ontology, Axiom, EquivalentClasses, DisjointClasses, EquivalentProperties, SameIndividuals, DifferentIndividuals}
 use Rattle.axioms.specs.WellFormedness.{AreOperands}
 use Rattle.entailment.specs.Parts.{parts_of, parts_of_list}
 use Rattle.entailment.specs.Testers.{AreFewInTests, IsFollowing, IsTold, IsUntold}
@@ -105,11 +105,4 @@ told_of_list o n (DisjointClasses cs) is r told = told
 told_of_list o n (EquivalentProperties rs) is r told = told
 told_of_list o n (SameIndividuals xs) is r told = told
 told_of_list o n (DifferentIndividuals xs) is r told = told
-told_of_list o n (SubClass c d) is r told = absurd is
-told_of_list o n (SubProperty chain s) is r told = absurd is
-told_of_list o n (Domain r c) is answer told = absurd is
-told_of_list o n (Transitive r) is answer told = absurd is
-told_of_list o n (Reflexive r) is answer told = absurd is
-told_of_list o n (ClassAssertion c a) is r told = absurd is
-told_of_list o n (PropertyAssertion r a b) is answer told = absurd is
-told_of_list o n (NegativePropertyAssertion r a b) is answer told = absurd is
+told_of_list o n _ is _ told = absurd is

@@ -11,7 +11,7 @@ use Rattle.entailment.specs.Claims.{IsEntailed, claimed}
 use Rattle.entailment.specs.Parts.{parts_of}
 use Rattle.entailment.specs.Testers.{IsFollowing}
 use Rattle.entailment.specs.declared.claim.Claim.{Claim}
-use Rattle.entailment.specs.declared.claim.Claim.TheVariants.{Below, Apart, Sources, Path, Loops, Member, Joined, Unjoined, One, Two}
+use Rattle.entailment.specs.declared.claim.Claim.TheVariants.{Apart, One, Two}
 use Rattle.interpretation_spec.specs.Interpretation.{HasPair, Interpretation, IsApart, IsModel, IsOtherElement, IsSame, IsSameElement, IsSameProperty, IsSubProperty}
 use Rattle.lemmas.proofs.Pairs.{AllPairs-from_map}
 
@@ -153,13 +153,7 @@ module _ (o : Ontology) where
   -- ---- a claim by its axiom
 
   pub claim_said : (claim : Claim) → IsEntailed o claim ↔ IsFollowing o (claimed claim)
-  claim_said (Below c d) = (λ h. h, λ h. h)
   claim_said (Apart c d) = ((apart_said c.0 d.0).1, (apart_said c.0 d.0).0)
-  claim_said (Sources r c) = (λ h. h, λ h. h)
-  claim_said (Path rs s) = (λ h. h, λ h. h)
-  claim_said (Loops r) = (λ h. h, λ h. h)
-  claim_said (Member c a) = (λ h. h, λ h. h)
-  claim_said (Joined r a b) = (λ h. h, λ h. h)
-  claim_said (Unjoined r a b) = (λ h. h, λ h. h)
   claim_said (One a b) = ((same_said a.0 b.0).1, (same_said a.0 b.0).0)
   claim_said (Two a b) = ((other_said a.0 b.0).1, (other_said a.0 b.0).0)
+  claim_said _ = (λ h. h, λ h. h)

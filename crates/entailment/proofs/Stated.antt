@@ -8,7 +8,7 @@ use Rattle.axioms.proofs.Keeping.{same_ontology}
 use Rattle.axioms.specs.Axiom as tree
 use Rattle.axioms.specs.Expression.{ClassExpression}
 use Rattle.axioms.specs.Fronts.{Extends, front_of, lengths_of}
-use Rattle.axioms.specs.Ontology.{Ontology, Axiom, Names, Node, EquivalentClasses, DisjointClasses, EquivalentProperties, SameIndividuals, DifferentIndividuals, SubClass, SubProperty, Domain, Transitive, Reflexive, ClassAssertion, PropertyAssertion, NegativePropertyAssertion, axiom_tree, axiom_trees, tree_of, trees, trees_from}
+use Rattle.axioms.specs.Ontology.{Ontology, Axiom, Names, Node, SubClass, axiom_tree, axiom_trees, tree_of, trees, trees_from}
 use Rattle.axioms.specs.WellFormedness.{IsAxiomOf, IsOntology}
 use Rattle.entailment.proofs.Moving.{all_front, all_back}
 use Rattle.entailment.specs.Entailment.{Entails, Follows}
@@ -108,18 +108,7 @@ module _ (known stated : Ontology) (more : Extends known stated) (w : IsOntology
 
   same_tree : (a : Axiom) → axiom_tree about a ≡ axiom_tree stated a
   same_tree (SubClass c d) = refl
-  same_tree (EquivalentClasses cs) = refl
-  same_tree (DisjointClasses cs) = refl
-  same_tree (SubProperty chain s) = refl
-  same_tree (EquivalentProperties rs) = refl
-  same_tree (Domain r c) = refl
-  same_tree (Transitive r) = refl
-  same_tree (Reflexive r) = refl
-  same_tree (ClassAssertion c a) = refl
-  same_tree (PropertyAssertion r a b) = refl
-  same_tree (SameIndividuals xs) = refl
-  same_tree (DifferentIndividuals xs) = refl
-  same_tree (NegativePropertyAssertion r a b) = refl
+  same_tree _ = refl
 
   same_trees : (axioms : List Axiom) → map (axiom_tree about) axioms ≡ map (axiom_tree stated) axioms
   same_trees [] = refl

@@ -1,5 +1,5 @@
 -- Marks on what the lines of marked facts rest on.
-use Rattle.std.proofs.Common.{◌≡◌, ℕ, zero, suc, ◌+◌, ◌<◌, ◌≤◌, ◌⊎◌, ◌↔◌, inl, inr, List, [], ◌∷◌, length, map, take, slice_get, Some, Bool, true, false, if◌then◌else◌, ◌||◌, ◌&&◌, ◌==◌, refl, sym, ap, ◌∙◌, subst, arith}
+use Rattle.std.proofs.Common.{◌≡◌, ℕ, ◌+◌, ◌<◌, ◌≤◌, ◌⊎◌, ◌↔◌, inl, inr, List, [], ◌∷◌, length, map, take, slice_get, Some, Bool, true, false, if◌then◌else◌, ◌||◌, ◌&&◌, ◌==◌, sym, ap, ◌∙◌, subst, arith}
 use Rattle.std.proofs.lemmas.Bool.{cases_lt}
 use Rattle.std.specs.List.{Contains}
 use Rattle.engine.specs.Saturations.{Saturated}
@@ -98,10 +98,7 @@ adds_rests s k r numbers marks new birth e h n = (
 -- ---- marks so far
 
 pub from_next : (k n : ℕ) → k ≤ n → (k + 1 ≤ n) ⊎ (n ≡ k)
-from_next zero zero l = inr refl
-from_next zero (suc n) l = inl (omega arith)
-from_next (suc k) zero l = absurd (omega arith)
-from_next (suc k) (suc n) l = elim (from_next k n (omega arith)) [ inl h ↦ inl (omega arith) | inr e ↦ inr (ap suc e) ]
+from_next k n l = elim (cases_lt k n) [ inl h ↦ inl (omega arith) | inr h ↦ inr (omega arith) ]
 
 -- marks are handed on from the k-th fact to the last that has one
 pub record AreHandedOn (s : Saturated) (first marks : List Bool) (k : ℕ) : Type 0 where

@@ -12,7 +12,7 @@ use Rattle.explain.specs.OlderFacts.{rests_on, by_axiom, is_by_axiom, is_axiom}
 use Rattle.explain.specs.Premises.{LiftTo, LiftsTo, TakesNoSame, first_property, second_property}
 use Rattle.explain.specs.Uses.{NamesForm}
 use Rattle.facts.specs.Births.{Reason}
-use Rattle.facts.specs.Closure.{Problem, Gives, in_thing, in_itself, by_form, unsatisfiable, loop, handed_on, different, apart, Concludes, IsLoop, Links, HandsOn, condition, nothing}
+use Rattle.facts.specs.Closure.{Problem, Gives, by_form, loop, handed_on, different, apart, Concludes, IsLoop, Links, HandsOn, condition, nothing}
 use Rattle.facts.specs.declared.contexts.Context.{Context}
 use Rattle.facts.specs.declared.contexts.Context.TheVariants.{Individual}
 use Rattle.facts.specs.declared.contexts.Fact.{Fact}
@@ -91,74 +91,48 @@ module _ (k : Problem) (facts : List Fact) (entries : List Entry) (m : ℕ) (by 
 
   -- two facts give by a domain, of which the first is the edge
   by_domain : (numbers : List ℕ) (older : List Fact) (r : PropId) (a b : Class2) (f : Fact) → map (slice_get facts) numbers ≡ map Some older → Concludes k (N4 r a b) older f → Taken 7 numbers (Some m) (N4 r a b) f
-  by_domain numbers [] r a b f at c = absurd c
-  by_domain numbers (g ∷ []) r a b f at c = absurd c
-  by_domain numbers (In _ _ ∷ g ∷ []) r a b f at c = absurd c
-  by_domain numbers (Edge _ _ _ ∷ Edge _ _ _ ∷ []) r a b f at c = absurd c
+  by_domain numbers (g ∷ h ∷ i ∷ more) r a b f at c = absurd c
   by_domain numbers (Edge x q y ∷ In d z ∷ []) r a b f at c = record {
     older = Edge x q y ∷ [];
     at = rw (by) (first_place facts numbers (Edge x q y ∷ In d z ∷ []) at);
     takes = (x, q, y, refl, c.0, c.3);
   }
-  by_domain numbers (g ∷ h ∷ i ∷ more) r a b f at c = absurd c
+  by_domain numbers _ r a b f at c = absurd c
 
   no_plain : (r s : PropId) (older : List Fact) (f : Fact) → Concludes k (N5 r s) older f → ⊥
-  no_plain r s [] f c = c
-  no_plain r s (g ∷ []) f c = c
-  no_plain r s (g ∷ h ∷ []) f c = c
   no_plain r s (g ∷ h ∷ i ∷ more) f c = c
+  no_plain r s _ f c = c
 
   no_loop : (r : PropId) (older : List Fact) (f : Fact) → Concludes k (N7 r) older f → ⊥
-  no_loop r [] f c = c
-  no_loop r (g ∷ []) f c = c
-  no_loop r (g ∷ h ∷ []) f c = c
   no_loop r (g ∷ h ∷ i ∷ more) f c = c
+  no_loop r _ f c = c
 
   -- an edge at or below a pair that is denied
   by_denied : (numbers : List ℕ) (older : List Fact) (i : IndId) (r : PropId) (j : IndId) (f : Fact) → map (slice_get facts) numbers ≡ map Some older → Concludes k (N12 i r j) older f → Taken 13 numbers (Some m) (N12 i r j) f
-  by_denied numbers [] i r j f at c = absurd c
-  by_denied numbers (In _ _ ∷ []) i r j f at c = absurd c
+  by_denied numbers (g ∷ h ∷ i' ∷ more) i r j f at c = absurd c
   by_denied numbers (Edge x q y ∷ []) i r j f at c = record {
     older = Edge x q y ∷ [];
     at = at;
     takes = (q, ap₂ (λ v w. Edge v q w ∷ []) c.0 c.1, c.2, c.3 ∙ ap (In nothing) c.0);
   }
-  by_denied numbers (g ∷ h ∷ []) i r j f at c = absurd c
-  by_denied numbers (g ∷ h ∷ i' ∷ more) i r j f at c = absurd c
+  by_denied numbers _ i r j f at c = absurd c
 
   concluded_by : (numbers : List ℕ) (older : List Fact) (form : Form) (f : Fact) → TakesNoSame form → map (slice_get facts) numbers ≡ map Some older → Concludes k form older f → Taken (condition form) numbers (Some m) form f
-  concluded_by numbers older (N1 a b) f free at c = record { older = older; at = at; takes = c }
-  concluded_by numbers older (N2 a b d) f free at c = record { older = older; at = at; takes = c }
-  concluded_by numbers older (N3 a r b) f free at c = record { older = older; at = at; takes = c }
   concluded_by numbers older (N4 r a b) f free at c = by_domain numbers older r a b f at c
   concluded_by numbers older (N5 r s) f free at c = absurd (no_plain r s older f c)
-  concluded_by numbers older (N6 r s t) f free at c = record { older = older; at = at; takes = c }
   concluded_by numbers older (N7 r) f free at c = absurd (no_loop r older f c)
-  concluded_by numbers older (N8 i a) f free at c = record { older = older; at = at; takes = c }
-  concluded_by numbers older (N9 i r j) f free at c = record { older = older; at = at; takes = c }
   concluded_by numbers older (N10 i j) f free at c = absurd free
   concluded_by numbers older (N12 i r j) f free at c = by_denied numbers older i r j f at c
+  concluded_by numbers older _ f free at c = record { older = older; at = at; takes = c }
 
   looped_by : (numbers : List ℕ) (x : Context) (form : Form) (f : Fact) → IsLoop x form f → Taken 10 numbers (Some m) form f
   looped_by numbers x (N7 r) f is = record { older = []; at = refl; takes = (x, refl, is) }
-  looped_by numbers x (N1 a b) f is = absurd is
-  looped_by numbers x (N2 a b d) f is = absurd is
-  looped_by numbers x (N3 a r b) f is = absurd is
-  looped_by numbers x (N4 r a b) f is = absurd is
-  looped_by numbers x (N5 r s) f is = absurd is
-  looped_by numbers x (N6 r s t) f is = absurd is
-  looped_by numbers x (N8 i a) f is = absurd is
-  looped_by numbers x (N9 i r j) f is = absurd is
-  looped_by numbers x (N10 i j) f is = absurd is
-  looped_by numbers x (N12 i r j) f is = absurd is
+  looped_by numbers x _ f is = absurd is
 
   same_form : {n : ℕ} {form form' : Form} → Some n ≡ Some m → slice_get k.forms n ≡ Some form' → slice_get k.forms m ≡ Some form → form' ≡ form
   same_form {n} {form} {form'} e at there = same_Some form' form (sym at ∙ ap (slice_get k.forms) (same_Some n m e) ∙ there)
 
   taken_by : {c : ℕ} {place : Option ℕ} {older : List Fact} {f : Fact} (numbers : List ℕ) (form : Form) → TakesNoSame form → NamesForm c → Gives k c place older f → place ≡ Some m → slice_get k.forms m ≡ Some form → map (slice_get facts) numbers ≡ map Some older → Taken c numbers place form f
-  taken_by numbers form free of_form (in_thing by') e there at = absurd (none-some m e)
-  taken_by numbers form free of_form (in_itself by') e there at = absurd (none-some m e)
-  taken_by numbers form free of_form (unsatisfiable back) e there at = absurd (none-some m e)
   taken_by {older = older} {f = f} numbers form free of_form (by_form n form' at_n c) e there at =
       subst (λ (p : Option ℕ). Taken (condition form') numbers p form f) (sym e)
       (subst (λ g. Taken (condition form') numbers (Some m) g f) (same_form e at_n there) (concluded_by numbers older form' f (subst TakesNoSame (sym (same_form e at_n there)) free) at c))
@@ -168,21 +142,13 @@ module _ (k : Problem) (facts : List Fact) (entries : List Entry) (m : ℕ) (by 
   taken_by numbers form free of_form (handed_on n form' at_n hands) e there at = absurd (other_hand form' (subst TakesNoSame (sym (same_form e at_n there)) free) hands)
   taken_by numbers form free of_form (different l a b listed same) e there at = absurd (of_form.0 refl)
   taken_by numbers form free of_form (apart l a b x listed) e there at = absurd (of_form.1 refl)
+  taken_by numbers form free of_form _ e there at = absurd (none-some m e)
 
 -- ---- the conditions of forms
 
 below_lists : (form : Form) → (condition form ≤ 11) ⊎ (condition form ≡ 13)
-below_lists (N1 _ _) = inl (omega arith)
-below_lists (N2 _ _ _) = inl (omega arith)
-below_lists (N3 _ _ _) = inl (omega arith)
-below_lists (N4 _ _ _) = inl (omega arith)
-below_lists (N5 _ _) = inl (omega arith)
-below_lists (N6 _ _ _) = inl (omega arith)
-below_lists (N7 _) = inl (omega arith)
-below_lists (N8 _ _) = inl (omega arith)
-below_lists (N9 _ _ _) = inl (omega arith)
-below_lists (N10 _ _) = inl (omega arith)
 below_lists (N12 _ _ _) = inr refl
+below_lists _ = inl (omega arith)
 
 -- none is one of lists
 pub of_a_form : (form : Form) → NamesForm (condition form)
@@ -199,12 +165,10 @@ none_named forms form (f ∷ []) e h = subst (λ p. LiftsTo forms p f) (sym e) t
 none_named forms form (f ∷ g ∷ more) e h = (subst (λ p. LiftsTo forms p f) (sym e) tt, subst (λ p. LiftsTo forms p g) (sym h) tt)
 
 pub by_chain : (k : Problem) (r s t : PropId2) (older : List Fact) (f : Fact) → Concludes k (N6 r s t) older f → LiftTo k.forms (N6 r s t) older
-by_chain k r s t [] f c = tt
-by_chain k r s t (g ∷ []) f c = absurd c
-by_chain k r s t (In _ _ ∷ h ∷ []) f c = absurd c
-by_chain k r s t (Edge _ _ _ ∷ In _ _ ∷ []) f c = absurd c
-by_chain k r s t (Edge x p y ∷ Edge z q w ∷ []) f c = (c.0, c.1)
 by_chain k r s t (g ∷ h ∷ i ∷ more) f c = absurd c
+by_chain k r s t [] f c = tt
+by_chain k r s t (Edge x p y ∷ Edge z q w ∷ []) f c = (c.0, c.1)
+by_chain k r s t _ f c = absurd c
 
 takes_lead_up : (k : Problem) (form : Form) (older : List Fact) (f : Fact) → TakesByAxiom k form older f → LiftTo k.forms form older
 takes_lead_up k (N1 a b) older f t = none_named k.forms (N1 a b) older refl refl

@@ -15,12 +15,12 @@ use Rattle.explain.specs.Uses.{NamesForm}
 use Rattle.explain.specs.FormRule.{expression_rule}
 use Rattle.explain.specs.Step.{LeadTo}
 use Rattle.facts.specs.Births.{Reason}
-use Rattle.facts.specs.Closure.{Problem, Gives, in_thing, in_itself, by_form, unsatisfiable, loop, handed_on, different, apart, Concludes, HandsOn, IsLoop, condition}
+use Rattle.facts.specs.Closure.{Problem, Gives, by_form, loop, handed_on, different, apart, Concludes, HandsOn, IsLoop, condition}
 use Rattle.facts.specs.declared.contexts.Context.{Context}
 use Rattle.facts.specs.declared.contexts.Fact.{Fact}
 use Rattle.facts.specs.declared.contexts.Fact.TheVariants.{In, Edge}
 use Rattle.normal_forms.specs.declared.forms.Form.{Form}
-use Rattle.normal_forms.specs.declared.forms.Form.TheVariants.{N1, N2, N3, N4, N5, N6, N7, N8, N9, N10, N12}
+use Rattle.normal_forms.specs.declared.forms.Form.TheVariants.{N1, N2, N3, N4}
 use Rattle.normal_forms.specs.declared.forms.Origin.TheVariants as origins
 use Rattle.normalise.specs.Entries.{form_in, origin_in}
 use Rattle.normalise.specs.declared.entries.Entry.{Entry}
@@ -40,26 +40,14 @@ module _ (k : Problem) (entries : List Entry) (m : ℕ) (by : by_axiom entries (
   concluded_by numbers older (N2 a b d) f kind c = record { concludes = c; rests = refl }
   concluded_by numbers older (N3 a r b) f kind c = record { concludes = c; rests = refl }
   concluded_by numbers older (N4 r a b) f kind c = record { concludes = c; rests = rw by refl }
-  concluded_by numbers older (N5 r s) f kind c = absurd kind
-  concluded_by numbers older (N6 r s t) f kind c = absurd kind
-  concluded_by numbers older (N7 r) f kind c = absurd kind
-  concluded_by numbers older (N8 i a) f kind c = absurd kind
-  concluded_by numbers older (N9 i r j) f kind c = absurd kind
-  concluded_by numbers older (N10 i j) f kind c = absurd kind
-  concluded_by numbers older (N12 i r j) f kind c = absurd kind
+  concluded_by numbers older _ f kind c = absurd kind
 
   no_loop : (x : Context) (form : Form) (f : Fact) → IsOfExpression form → IsLoop x form f → ⊥
   no_loop x (N1 a b) f kind l = l
   no_loop x (N2 a b d) f kind l = l
   no_loop x (N3 a r b) f kind l = l
   no_loop x (N4 r a b) f kind l = l
-  no_loop x (N5 r s) f kind l = kind
-  no_loop x (N6 r s t) f kind l = kind
-  no_loop x (N7 r) f kind l = kind
-  no_loop x (N8 i a) f kind l = kind
-  no_loop x (N9 i r j) f kind l = kind
-  no_loop x (N10 i j) f kind l = kind
-  no_loop x (N12 i r j) f kind l = kind
+  no_loop x _ f kind l = kind
 
   -- no such form makes individuals one
   no_hand : (form : Form) {g f : Fact} → IsOfExpression form → HandsOn form g f → ⊥
@@ -69,9 +57,6 @@ module _ (k : Problem) (entries : List Entry) (m : ℕ) (by : by_axiom entries (
   same_form {n} {form} {form'} e at there = same_Some form' form (sym at ∙ ap (slice_get k.forms) (same_Some n m e) ∙ there)
 
   given_by : {c : ℕ} {place : Option ℕ} {older : List Fact} {f : Fact} (numbers : List ℕ) (form : Form) → NamesForm c → Gives k c place older f → place ≡ Some m → slice_get k.forms m ≡ Some form → IsOfExpression form → IsGivenBy k entries (reason_of c numbers place) form older f
-  given_by numbers form of_form (in_thing by') e there kind = absurd (none-some m e)
-  given_by numbers form of_form (in_itself by') e there kind = absurd (none-some m e)
-  given_by numbers form of_form (unsatisfiable back) e there kind = absurd (none-some m e)
   given_by {older = older} {f = f} numbers form of_form (by_form n form' at_n c) e there kind =
       let same = same_form e at_n there in
       subst (λ (p : Option ℕ). IsGivenBy k entries (reason_of (condition form') numbers p) form older f) (sym e)
@@ -81,6 +66,7 @@ module _ (k : Problem) (entries : List Entry) (m : ℕ) (by : by_axiom entries (
   given_by numbers form of_form (handed_on n form' at_n hands) e there kind = absurd (no_hand form' (subst IsOfExpression (sym (same_form e at_n there)) kind) hands)
   given_by numbers form of_form (different l a b listed same) e there kind = absurd (of_form.0 refl)
   given_by numbers form of_form (apart l a b x listed) e there kind = absurd (of_form.1 refl)
+  given_by numbers form of_form _ e there kind = absurd (none-some m e)
 
 -- each edge is lifted to the property of the form
 lifts : (k : Problem) (form : Form) (older : List Fact) (f : Fact) → IsOfExpression form → Concludes k form older f → LiftTo k.forms form older
@@ -93,13 +79,7 @@ lifts k (N4 r a b) (In _ _ ∷ h ∷ []) f kind c = absurd c
 lifts k (N4 r a b) (Edge _ _ _ ∷ Edge _ _ _ ∷ []) f kind c = absurd c
 lifts k (N4 r a b) (Edge x q y ∷ In d z ∷ []) f kind c = (c.0, tt)
 lifts k (N4 r a b) (g ∷ h ∷ i ∷ more) f kind c = absurd c
-lifts k (N5 r s) older f kind c = absurd kind
-lifts k (N6 r s t) older f kind c = absurd kind
-lifts k (N7 r) older f kind c = absurd kind
-lifts k (N8 i a) older f kind c = absurd kind
-lifts k (N9 i r j) older f kind c = absurd kind
-lifts k (N10 i j) older f kind c = absurd kind
-lifts k (N12 i r j) older f kind c = absurd kind
+lifts k _ older f kind c = absurd kind
 
 -- what is known of a fact that the form of an expression gave
 pub record IsBornByExpression (o : Ontology) (s : Saturated) (r : Reason) (form : Form) (f : Fact) : Type 0 where

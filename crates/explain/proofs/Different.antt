@@ -25,7 +25,7 @@ use Rattle.explain.specs.SameLines.{SaysSame}
 use Rattle.explain.specs.Step.{LeadTo, said_by}
 use Rattle.facts.specs.Births.{Reason}
 use Rattle.facts.specs.Closure as facts
-use Rattle.facts.specs.Closure.{Problem, Gives, in_thing, in_itself, by_form, unsatisfiable, loop, handed_on, different, apart, AreSame}
+use Rattle.facts.specs.Closure.{Problem, Gives, by_form, different, apart, AreSame}
 use Rattle.facts.specs.declared.contexts.Context.TheVariants.{Individual}
 use Rattle.facts.specs.declared.contexts.Fact.{Fact}
 use Rattle.facts.specs.declared.contexts.Fact.TheVariants.{In}
@@ -78,13 +78,7 @@ record IsOfDifferent (k : Problem) (l : ℕ) (older : List Fact) (f : Fact) : Ty
   pub is : f ≡ In facts.nothing (Individual a)
 
 gives_different : (k : Problem) {c : ℕ} {place : Option ℕ} {older : List Fact} {f : Fact} (l : ℕ) → Gives k c place older f → place ≡ Some l → c ≡ 12 → IsOfDifferent k l older f
-gives_different k l (in_thing by) p e = absurd (omega (arith, e))
-gives_different k l (in_itself by) p e = absurd (omega (arith, e))
 gives_different k l (by_form n form at c) p e = absurd ((of_a_form form).0 e)
-gives_different k l (unsatisfiable back) p e = absurd (omega (arith, e))
-gives_different k l (loop x n form at is by) p e = absurd (omega (arith, e))
-gives_different k l (handed_on n form at hands) p e = absurd (omega (arith, e))
-gives_different k l (apart m a b x listed) p e = absurd (omega (arith, e))
 gives_different k l (different m a b listed same) p e = record {
   a = a;
   b = b;
@@ -93,6 +87,7 @@ gives_different k l (different m a b listed same) p e = record {
   none = refl;
   is = refl;
 }
+gives_different k l _ p e = absurd (omega (arith, e))
 
 none_older : {X : Type 0} (xs : List X) (ns : List ℕ) → map (slice_get xs) ns ≡ map Some [] → ns ≡ []
 none_older xs [] e = refl

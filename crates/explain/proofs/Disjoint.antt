@@ -2,7 +2,7 @@
 use Rattle.std.proofs.Common.{◌≡◌, ℕ, inl, inr, List, [], ◌∷◌, ◌++◌, map, slice_get, Option, Some, Contains, refl, sym, ap, ap₂, ◌∙◌, subst, arith}
 use Rattle.std.proofs.lemmas.Option.{none-some, same_Some}
 use Rattle.lemmas.proofs.Members.{Contains-first, Contains-later}
-use Rattle.axioms.specs.Ontology.{Ontology, Axiom, SubClass, EquivalentClasses, DisjointClasses, SubProperty, EquivalentProperties, Domain, Transitive, Reflexive, ClassAssertion, PropertyAssertion, SameIndividuals, DifferentIndividuals, NegativePropertyAssertion, AtTwoPlaces, nothing}
+use Rattle.axioms.specs.Ontology.{Ontology, Axiom, DisjointClasses, SubProperty, AtTwoPlaces, nothing}
 use Rattle.axioms.specs.View.{at_number}
 use Rattle.axioms.specs.WellFormedness.{IsOntology}
 use Rattle.axioms.specs.declared.ids.ExprId.{ExprId}
@@ -23,7 +23,7 @@ use Rattle.explain.specs.Step.{LeadTo, said_by, subject_in}
 use Rattle.explain.specs.Uses.{EachIsUsed, IsAmong, IsAmongThose, ShowsOlder, Uses}
 use Rattle.facts.specs.Births.{Reason, numbers_of}
 use Rattle.facts.specs.Closure as facts
-use Rattle.facts.specs.Closure.{Problem, Gives, in_thing, in_itself, by_form, unsatisfiable, loop, handed_on, different, apart}
+use Rattle.facts.specs.Closure.{Problem, Gives, by_form, apart}
 use Rattle.facts.specs.declared.births.FactId.{FactId}
 use Rattle.facts.specs.declared.births.Older as code_older
 use Rattle.facts.specs.declared.births.Older.TheVariants as older
@@ -50,13 +50,7 @@ record IsOfDisjoint (k : Problem) (l : ℕ) (given : List Fact) (f : Fact) : Typ
   pub is : f ≡ In facts.nothing context
 
 gives_disjoint : (k : Problem) {c : ℕ} {place : Option ℕ} {given : List Fact} {f : Fact} (l : ℕ) → Gives k c place given f → place ≡ Some l → c ≡ 14 → IsOfDisjoint k l given f
-gives_disjoint k l (in_thing by) p e = absurd (omega (arith, e))
-gives_disjoint k l (in_itself by) p e = absurd (omega (arith, e))
 gives_disjoint k l (by_form n form at c) p e = absurd ((of_a_form form).1 e)
-gives_disjoint k l (unsatisfiable back) p e = absurd (omega (arith, e))
-gives_disjoint k l (loop x n form at is by) p e = absurd (omega (arith, e))
-gives_disjoint k l (handed_on n form at hands) p e = absurd (omega (arith, e))
-gives_disjoint k l (different m a b listed same) p e = absurd (omega (arith, e))
 gives_disjoint k l (apart m a b x (c, d, a_is, b_is, listed)) p e = record {
   a = c;
   b = d;
@@ -65,26 +59,17 @@ gives_disjoint k l (apart m a b x (c, d, a_is, b_is, listed)) p e = record {
   given_are = ap₂ (λ v w. In v x ∷ In w x ∷ []) a_is b_is;
   is = refl;
 }
+gives_disjoint k l _ p e = absurd (omega (arith, e))
 
 -- the axiom says that the two have nothing in common
 disjoint_given : (a : Axiom) (x y : ℕ) → AxiomGives a (definition.N2 (definition.Whole x) (definition.Whole y) (definition.Whole nothing)) → (xs : List ℕ) × (a ≡ DisjointClasses xs) × AtTwoPlaces xs x y
-disjoint_given (SubClass c d) x y h = absurd cc
-disjoint_given (EquivalentClasses cs) x y (n, (c, d, at, next, e)) = absurd cc
 disjoint_given (DisjointClasses cs) x y (m, (n, (c, d, low, at, there, e))) =
     let i : x ≡ c = cc in
     let j : y ≡ d = cc in
     (cs, refl, (m, n, (λ k. (let bad : ⊥ = omega (arith, k, low) in bad)), at ∙ ap Some (sym i), there ∙ ap Some (sym j)))
-disjoint_given (SubProperty rs t) x y (inl (q, one, e)) = absurd cc
-disjoint_given (SubProperty rs t) x y (inr (n, (q, l, at, e))) = absurd cc
-disjoint_given (EquivalentProperties rs) x y (n, (p, q, at, next, e)) = absurd cc
-disjoint_given (Domain q c) x y h = absurd cc
-disjoint_given (Transitive q) x y h = absurd cc
-disjoint_given (Reflexive q) x y h = absurd cc
-disjoint_given (ClassAssertion c a) x y h = absurd cc
-disjoint_given (PropertyAssertion q a b) x y h = absurd cc
-disjoint_given (SameIndividuals xs) x y (n, (a, b, at, next, e)) = absurd cc
-disjoint_given (DifferentIndividuals xs) x y (m, (n, (a, b, l, at, there, e))) = absurd cc
-disjoint_given (NegativePropertyAssertion q a b) x y h = absurd cc
+disjoint_given (SubProperty rs t) x y (inl h) = absurd cc
+disjoint_given (SubProperty rs t) x y (inr h) = absurd cc
+disjoint_given _ x y h = absurd cc
 
 -- ---- of a saturation
 

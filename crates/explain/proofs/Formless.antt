@@ -37,7 +37,7 @@ use Rattle.facts.specs.declared.contexts.Fact.{Fact}
 use Rattle.facts.specs.declared.contexts.Fact.TheVariants.{In, Edge}
 use Rattle.normal_forms.specs.declared.forms.Class2.TheVariants as classes
 use Rattle.normal_forms.specs.declared.forms.Form.{Form}
-use Rattle.normal_forms.specs.declared.forms.Form.TheVariants.{N1, N2, N3, N4, N5, N6, N7, N8, N9, N10, N12}
+use Rattle.normal_forms.specs.declared.forms.Form.TheVariants.{N1}
 use Rattle.normal_forms.specs.declared.forms.PropId2.{PropId2}
 use Rattle.number_sets.specs.Pieces.{list_at}
 use Rattle.normalise.specs.Problem.{prefixes_of}
@@ -46,14 +46,12 @@ use Rattle.normalise.specs.Problem.{prefixes_of}
 
 -- a form that gave a fact is there
 pub gives_form : (k : Problem) {c : ℕ} {place : Option ℕ} {older : List Fact} {f : Fact} (m : ℕ) → NamesForm c → Gives k c place older f → place ≡ Some m → (form : Form) × (slice_get k.forms m ≡ Some form)
-gives_form k m of_form (in_thing by) e = absurd (none-some m e)
-gives_form k m of_form (in_itself by) e = absurd (none-some m e)
-gives_form k m of_form (unsatisfiable back) e = absurd (none-some m e)
 gives_form k m of_form (by_form n form at c) e = (form, ap (slice_get k.forms) (sym (same_Some n m e)) ∙ at)
 gives_form k m of_form (loop x n form at is by) e = (form, ap (slice_get k.forms) (sym (same_Some n m e)) ∙ at)
 gives_form k m of_form (handed_on n form at hands) e = (form, ap (slice_get k.forms) (sym (same_Some n m e)) ∙ at)
 gives_form k m of_form (different l a b listed same) e = absurd (of_form.0 refl)
 gives_form k m of_form (apart l a b x listed) e = absurd (of_form.1 refl)
+gives_form k m of_form _ e = absurd (none-some m e)
 
 -- an edge, and owl:Nothing at its target
 pub record CarriesNothing (older : List Fact) (f : Fact) : Type 0 where
@@ -65,22 +63,10 @@ pub record CarriesNothing (older : List Fact) (f : Fact) : Type 0 where
 
 not_eight : (form : Form) → condition form ≡ 8 → ⊥
 not_eight (N1 _ _) e = omega arith
-not_eight (N2 _ _ _) e = omega arith
-not_eight (N3 _ _ _) e = omega arith
-not_eight (N4 _ _ _) e = omega arith
-not_eight (N5 _ _) e = omega arith
-not_eight (N6 _ _ _) e = omega arith
-not_eight (N7 _) e = omega arith
-not_eight (N8 _ _) e = omega arith
-not_eight (N9 _ _ _) e = omega arith
-not_eight (N10 _ _) e = omega arith
-not_eight (N12 _ _ _) e = omega arith
+not_eight _ e = omega arith
 
 carries_back : (older : List Fact) (f : Fact) → CarriesBack older f → CarriesNothing older f
-carries_back [] f c = absurd c
-carries_back (g ∷ []) f c = absurd c
-carries_back (In _ _ ∷ h ∷ []) f c = absurd c
-carries_back (Edge _ _ _ ∷ Edge _ _ _ ∷ []) f c = absurd c
+carries_back (g ∷ h ∷ i ∷ more) f c = absurd c
 carries_back (Edge x r y ∷ In d z ∷ []) f (class, target, is) = record {
   source = x;
   step = r;
@@ -88,17 +74,12 @@ carries_back (Edge x r y ∷ In d z ∷ []) f (class, target, is) = record {
   older_are = ap (λ e. Edge x r y ∷ In e z ∷ []) class ∙ ap (λ v. Edge x r y ∷ In nothing v ∷ []) (sym target);
   is = is;
 }
-carries_back (g ∷ h ∷ i ∷ more) f c = absurd c
+carries_back _ f c = absurd c
 
 gives_nothing : (k : Problem) {c : ℕ} {place : Option ℕ} {older : List Fact} {f : Fact} → Gives k c place older f → c ≡ 8 → CarriesNothing older f
-gives_nothing k (in_thing by) e = absurd (omega arith)
-gives_nothing k (in_itself by) e = absurd (omega arith)
 gives_nothing k (by_form n form at c) e = absurd (not_eight form e)
-gives_nothing k (loop x n form at is by) e = absurd (omega arith)
-gives_nothing k (handed_on n form at hands) e = absurd (omega arith)
-gives_nothing k (different l a b listed same) e = absurd (omega arith)
-gives_nothing k (apart l a b x listed) e = absurd (omega arith)
 gives_nothing k {older = older} {f = f} (unsatisfiable back) e = carries_back older f back
+gives_nothing k _ e = absurd (omega arith)
 
 -- owl:Thing, or the expression itself
 lies_in : (o : Ontology) (e : ExprId) (x : Context) → subject_in x ≡ Expression e.0 → Follows o (context_rule (In (classes.Expr e) x)) [] None (Sub (subject_in x) e.0)

@@ -5,7 +5,6 @@ use Rattle.std.proofs.lemmas.List.{append_assoc, map-append, length-append, leng
 use Rattle.std.proofs.lemmas.Option.{none-some}
 use Rattle.axioms.specs.View.{at_number}
 use Rattle.certificate.specs.Certificate.{Conclusion, Line}
-use Rattle.certificate.specs.declared.line.Line as code
 use Rattle.cert_check.specs.Derivation.{IsDerivation, IsDerived, at_numbers}
 use Rattle.closure.specs.Denotations.{Prefixes}
 use Rattle.exactness.proofs.Derivable.{conclusions, derivation_push, prepended_list_parts}

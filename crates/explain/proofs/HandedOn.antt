@@ -12,6 +12,7 @@ use Rattle.lemmas.proofs.Places.{take_push}
 use Rattle.std.proofs.lemmas.List.Elements.{Contains-append_left, Contains-push, Contains-push_cases}
 use Rattle.explain.specs.LineMarks.{ArePremisesBefore, ArePremisesMarked, MarksRests}
 use Rattle.explain.specs.Marks.{IsMarked}
+use Rattle.explain.proofs.Below.{from_next}
 
 -- what marked lines from the k-th on have as premises is marked, and the goal rests on whatever is marked
 pub record AreHandedOn (lines : List Line) (first marks : List Bool) (k : ℕ) : Type 0 where
@@ -19,12 +20,6 @@ pub record AreHandedOn (lines : List Line) (first marks : List Bool) (k : ℕ) :
   pub kept : (n : ℕ) → IsMarked first n → IsMarked marks n
   pub closed : (n m : ℕ) (line : Line) → k ≤ n → IsMarked marks n → slice_get lines n ≡ Some line → Contains line.premises (suc m) → IsMarked marks m
   pub only : (goal : ℕ) → ((n : ℕ) → IsMarked first n → suc n ≡ goal) → (n : ℕ) → IsMarked marks n → RestsOn lines goal (suc n)
-
-from_next : (k n : ℕ) → k ≤ n → (k + 1 ≤ n) ⊎ (n ≡ k)
-from_next zero zero l = inr refl
-from_next zero (suc n) l = inl (omega arith)
-from_next (suc k) zero l = absurd (omega arith)
-from_next (suc k) (suc n) l = elim (from_next k n (omega arith)) [ inl h ↦ inl (omega arith) | inr e ↦ inr (ap suc e) ]
 
 rests_self : (lines : List Line) (goal m : ℕ) → m ≡ goal → RestsOn lines goal m
 rests_self lines goal m e = subst (RestsOn lines goal) (sym e) itself

@@ -2,7 +2,7 @@
 use Rattle.std.proofs.Common.{◌≡◌, ℕ, List, [], ◌∷◌, map, slice_get, option_map, Option, Some, None, Contains, inl, inr, refl, sym, ap, ◌∙◌, subst, arith}
 use Rattle.std.proofs.lemmas.List.{append-nil}
 use Rattle.std.proofs.lemmas.Option.{same_Some}
-use Rattle.axioms.specs.Ontology.{Ontology, Axiom, SubClass, EquivalentClasses, DisjointClasses, SubProperty, EquivalentProperties, Domain, Transitive, Reflexive, ClassAssertion, PropertyAssertion, SameIndividuals, DifferentIndividuals, NegativePropertyAssertion}
+use Rattle.axioms.specs.Ontology.{Ontology, Axiom, SubClass, EquivalentClasses, DisjointClasses, SubProperty, EquivalentProperties, SameIndividuals, DifferentIndividuals}
 use Rattle.axioms.specs.WellFormedness.{IsOntology}
 use Rattle.certificate.specs.Certificate.{Line}
 use Rattle.certificate.specs.declared.line.Rule.{Rule}
@@ -14,13 +14,13 @@ use Rattle.facts.specs.declared.births.FactId.{FactId}
 use Rattle.facts.specs.declared.births.Older as code_older
 use Rattle.facts.specs.declared.births.Older.TheVariants as older
 use Rattle.lemmas.proofs.Members.{Contains-first}
-use Rattle.facts.specs.Closure.{Problem, Concludes, Gives, in_thing, in_itself, by_form, unsatisfiable, loop, handed_on, different, apart}
+use Rattle.facts.specs.Closure.{Problem, Concludes, Gives, by_form}
 use Rattle.facts.specs.declared.contexts.Fact.{Fact}
 use Rattle.normal_forms.specs.Forms as definition
 use Rattle.normal_forms.specs.Origins.{AxiomGives}
 use Rattle.normal_forms.specs.declared.forms.Class2.{Class2}
 use Rattle.normal_forms.specs.declared.forms.Form.{Form}
-use Rattle.normal_forms.specs.declared.forms.Form.TheVariants.{N1, N2, N3, N4, N5, N6, N7, N8, N9, N10, N12}
+use Rattle.normal_forms.specs.declared.forms.Form.TheVariants.{N1}
 use Rattle.normal_forms.specs.declared.forms.Origin.{Origin}
 use Rattle.normal_forms.specs.declared.forms.Origin.TheVariants as origins
 use Rattle.normalise.specs.Entries.{form_in, origin_in}
@@ -54,14 +54,9 @@ axiom_of_inclusion (SubProperty rs s) g is gives = elim gives [
   | inr (n, (r, low, at_n, made)) ↦ absurd (subst IsInclusion made is)
 ]
 axiom_of_inclusion (EquivalentProperties rs) g is (n, (r, s, at_r, next, made)) = absurd (subst IsInclusion made is)
-axiom_of_inclusion (Domain r c) g is gives = absurd (subst IsInclusion gives is)
-axiom_of_inclusion (Transitive r) g is gives = absurd (subst IsInclusion gives is)
-axiom_of_inclusion (Reflexive r) g is gives = absurd (subst IsInclusion gives is)
-axiom_of_inclusion (ClassAssertion c a) g is gives = absurd (subst IsInclusion gives is)
-axiom_of_inclusion (PropertyAssertion r i j) g is gives = absurd (subst IsInclusion gives is)
 axiom_of_inclusion (SameIndividuals xs) g is (n, (i, j, at_i, at_j, made)) = absurd (subst IsInclusion made is)
 axiom_of_inclusion (DifferentIndividuals xs) g is (m, (n, (i, j, low, at_i, at_j, made))) = absurd (subst IsInclusion made is)
-axiom_of_inclusion (NegativePropertyAssertion r i j) g is gives = absurd (subst IsInclusion gives is)
+axiom_of_inclusion _ g is gives = absurd (subst IsInclusion gives is)
 
 -- so the rule is told without the axiom
 pub rule_of_inclusion : (o : Ontology) (s : Saturated) → IsSaturated o s → (m : ℕ) (x y : Class2) → slice_get s.state.problem.forms m ≡ Some (N1 x y)
@@ -90,31 +85,14 @@ record IsGiven (k : Problem) (m : ℕ) (older : List Fact) : Type 0 where
   only : older ≡ fact ∷ []
 
 given_one : (k : Problem) (m : ℕ) (x y : Class2) (older : List Fact) (f : Fact) → slice_get k.forms m ≡ Some (N1 x y) → Concludes k (N1 x y) older f → IsGiven k m older
-given_one k m x y [] f at c = absurd c
-given_one k m x y (g ∷ []) f at c = record { lower = x; upper = y; at = at; fact = g; only = refl }
-given_one k m x y (g ∷ h ∷ []) f at c = absurd c
 given_one k m x y (g ∷ h ∷ i ∷ more) f at c = absurd c
+given_one k m x y (g ∷ []) f at c = record { lower = x; upper = y; at = at; fact = g; only = refl }
+given_one k m x y _ f at c = absurd c
 
 -- what gives a fact by that condition
 is_given : (k : Problem) (c : ℕ) (place : Option ℕ) (older : List Fact) (f : Fact) → Gives k c place older f → c ≡ 4 → (m : ℕ) → place ≡ Some m → IsGiven k m older
-is_given k c place older f (in_thing by) e m p = absurd (omega (arith, e))
-is_given k c place older f (in_itself by) e m p = absurd (omega (arith, e))
 is_given k c place older f (by_form n (N1 x y) at concludes) e m p = given_one k m x y older f (subst (λ z. slice_get k.forms z ≡ Some (N1 x y)) (same_Some n m p) at) concludes
-is_given k c place older f (by_form n (N2 _ _ _) at concludes) e m p = absurd (omega (arith, e))
-is_given k c place older f (by_form n (N3 _ _ _) at concludes) e m p = absurd (omega (arith, e))
-is_given k c place older f (by_form n (N4 _ _ _) at concludes) e m p = absurd (omega (arith, e))
-is_given k c place older f (by_form n (N5 _ _) at concludes) e m p = absurd (omega (arith, e))
-is_given k c place older f (by_form n (N6 _ _ _) at concludes) e m p = absurd (omega (arith, e))
-is_given k c place older f (by_form n (N7 _) at concludes) e m p = absurd (omega (arith, e))
-is_given k c place older f (by_form n (N8 _ _) at concludes) e m p = absurd (omega (arith, e))
-is_given k c place older f (by_form n (N9 _ _ _) at concludes) e m p = absurd (omega (arith, e))
-is_given k c place older f (by_form n (N10 _ _) at concludes) e m p = absurd (omega (arith, e))
-is_given k c place older f (by_form n (N12 _ _ _) at concludes) e m p = absurd (omega (arith, e))
-is_given k c place older f (unsatisfiable back) e m p = absurd (omega (arith, e))
-is_given k c place older f (loop x n form at is by) e m p = absurd (omega (arith, e))
-is_given k c place older f (handed_on n form at hands) e m p = absurd (omega (arith, e))
-is_given k c place older f (different l a b listed same) e m p = absurd (omega (arith, e))
-is_given k c place older f (apart l a b x listed) e m p = absurd (omega (arith, e))
+is_given k c place older f _ e m p = absurd (omega (arith, e))
 
 -- ---- the line
 

@@ -3,7 +3,7 @@ use Rattle.std.proofs.Common.{◌≡◌, ℕ, zero, suc, ◌+◌, ◌<◌, ◌�
 use Rattle.std.proofs.lemmas.Option.{none-some, same_Some, slice_get_within}
 use Rattle.std.proofs.lemmas.List.Elements.{All-contains}
 use Rattle.axioms.specs.declared.ids.PropId.{PropId}
-use Rattle.axioms.specs.Ontology.{Ontology, Axiom, Node, Class, And, Exists, SubClass, EquivalentClasses, DisjointClasses, SubProperty, EquivalentProperties, Domain, Transitive, Reflexive, ClassAssertion, PropertyAssertion, SameIndividuals, DifferentIndividuals, NegativePropertyAssertion}
+use Rattle.axioms.specs.Ontology.{Ontology, Axiom, Node, Class, And, Exists, SubProperty, EquivalentProperties}
 use Rattle.axioms.specs.WellFormedness.{IsOntology, IsAxiomOf}
 use Rattle.certificate.specs.Certificate.{Subject, Conclusion, Edge, Line}
 use Rattle.certificate.specs.Writability.{IsConclusionOf}
@@ -50,28 +50,18 @@ in_circle rs r s n at next = (
 
 -- the axiom leads an edge up, and the property above is there
 axiom_leads : (o : Ontology) (a : Axiom) (r s : ℕ) (x y : Subject) → IsAxiomOf o a → AxiomGives a (N5 r s) → Follows o K12 (Edge x r y ∷ []) (Some a) (Edge x s y) × (s < length o.names.properties)
-axiom_leads o (SubClass c d) r s x y w h = absurd cc
-axiom_leads o (EquivalentClasses cs) r s x y w (n, (c, d, at, next, e)) = absurd cc
-axiom_leads o (DisjointClasses cs) r s x y w (m, (n, (c, d, l, at, there, e))) = absurd cc
 axiom_leads o (SubProperty rs t) r s x y w (inl (q, one, e)) =
     let i : r ≡ q = cc in
     let j : s ≡ t = cc in
     ((refl, refl, one ∙ ap (λ p. p ∷ []) (sym i), sym j), subst (λ (p : ℕ). p < length o.names.properties) (sym j) w.2)
-axiom_leads o (SubProperty rs t) r s x y w (inr (n, (q, l, at, e))) = absurd cc
 axiom_leads o (EquivalentProperties rs) r s x y w (n, (p, q, at, next, e)) =
     let i : r ≡ p = cc in
     let j : s ≡ q = cc in
     let both = in_circle rs p q n at next in
     let up : Contains rs s = subst (Contains rs) (sym j) both.1 in
     ((refl, refl, subst (Contains rs) (sym i) both.0, up), All-contains (λ p. p < length o.names.properties) rs s w.within up)
-axiom_leads o (Domain q c) r s x y w h = absurd cc
-axiom_leads o (Transitive q) r s x y w h = absurd cc
-axiom_leads o (Reflexive q) r s x y w h = absurd cc
-axiom_leads o (ClassAssertion c a) r s x y w h = absurd cc
-axiom_leads o (PropertyAssertion q a b) r s x y w h = absurd cc
-axiom_leads o (SameIndividuals xs) r s x y w (n, (a, b, at, next, e)) = absurd cc
-axiom_leads o (DifferentIndividuals xs) r s x y w (m, (n, (a, b, l, at, there, e))) = absurd cc
-axiom_leads o (NegativePropertyAssertion q a b) r s x y w h = absurd cc
+axiom_leads o (SubProperty rs t) r s x y w (inr h) = absurd cc
+axiom_leads o _ r s x y w h = absurd cc
 
 right_none : (e : ℕ) (node : Node) (r s : ℕ) → RightGives e node (N5 r s) → ⊥
 right_none e (Class c) r s h = h

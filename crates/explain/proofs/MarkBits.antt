@@ -1,10 +1,11 @@
 -- Marks on facts.
-use Rattle.std.proofs.Common.{◌≡◌, ◌≢◌, ◌↔◌, ◌⊎◌, inl, inr, ℕ, zero, suc, ◌-◌, ◌<◌, List, Bool, true, false, length, replicate, Some, refl, sym, ap, ◌∙◌, arith}
+use Rattle.std.proofs.Common.{◌≡◌, ◌≢◌, ◌↔◌, ◌⊎◌, inl, inr, ℕ, suc, ◌-◌, ◌<◌, List, Bool, true, false, length, replicate, Some, sym, ap, ◌∙◌, arith}
 use Rattle.std.specs.Prelude.{slice_set}
 use Rattle.std.proofs.lemmas.Bool.{cases_eq, cases_lt, false≢true}
 use Rattle.std.proofs.lemmas.List.{get_or_past, get_or-set_same, get_or-set_other, length-replicate, length-set}
 use Rattle.std.proofs.lemmas.Option.{get_or_from_slice_get, slice_get-get_or}
 use Rattle.number_sets.specs.Members.{has}
+use Rattle.number_sets.proofs.Members.{has_none}
 use Rattle.explain.specs.Marks.{IsMarked}
 
 -- ---- a mark
@@ -38,11 +39,6 @@ one_more_mark marks new k there is n = (
     other : n ≢ k → has new n ≡ has marks n
     other d = ap (λ (ms : List Bool). has ms n) is ∙ get_or-set_other marks k n true false d
 
-no_mark : (goal n : ℕ) → has (replicate goal false) n ≡ false
-no_mark zero n = refl
-no_mark (suc goal) zero = refl
-no_mark (suc goal) (suc n) = no_mark goal n
-
 -- a mark on the goal alone
 pub goal_marked : (new : List Bool) (goal : ℕ) → 0 < goal → new ≡ slice_set (replicate goal false) (goal - 1) true → (length new ≡ goal) × ((n : ℕ) → IsMarked new n ↔ (suc n ≡ goal))
 goal_marked new goal some is = (
@@ -60,4 +56,4 @@ goal_marked new goal some is = (
     there = omega (arith, some, length-replicate goal false)
 
     blank : (n : ℕ) → IsMarked none n → ⊥
-    blank n m = not_marked none n (no_mark goal n) m
+    blank n m = not_marked none n (has_none goal n) m

@@ -1,12 +1,12 @@
 -- Lines that say that individuals are one: they stay where lines are added, and they follow from the axiom that gave the form.
-use Rattle.std.proofs.Common.{◌≡◌, ℕ, zero, suc, ◌+◌, ◌/◌, ◌%◌, ◌^◌, ◌<◌, ◌≤◌, inl, inr, List, [], ◌∷◌, ◌++◌, length, map, drop, get_or, slice_get, option_map, Option, Some, None, IfSome, Result, Ok, Err, OnOk, OnErr, Contains, refl, sym, ap, ap₂, ◌∙◌, subst, arith}
+use Rattle.std.proofs.Common.{◌≡◌, ℕ, zero, suc, ◌+◌, ◌/◌, ◌%◌, ◌^◌, ◌<◌, inl, inr, List, [], ◌∷◌, ◌++◌, length, map, drop, get_or, slice_get, option_map, Option, Some, None, IfSome, Result, Ok, Err, OnOk, OnErr, Contains, refl, sym, ap, ap₂, ◌∙◌, subst, arith}
 use Rattle.std.proofs.lemmas.List.{append-nil}
 use Rattle.std.specs.BTreeMap.{BTreeMap, get}
 use Rattle.std.specs.Ordering.{nat_cmp}
 use Rattle.std.proofs.lemmas.Option.{none-some}
 use Rattle.lemmas.proofs.Mapped.{slice_get_map_from}
 use Rattle.lemmas.proofs.Members.{Contains-from_slice_get}
-use Rattle.axioms.specs.Ontology.{Ontology, Axiom, SubClass, EquivalentClasses, DisjointClasses, SubProperty, EquivalentProperties, Domain, Transitive, Reflexive, ClassAssertion, PropertyAssertion, SameIndividuals, DifferentIndividuals, NegativePropertyAssertion, AtTwoPlaces}
+use Rattle.axioms.specs.Ontology.{Ontology, Axiom, SubProperty, SameIndividuals, DifferentIndividuals, AtTwoPlaces}
 use Rattle.axioms.specs.View.{at_number}
 use Rattle.axioms.specs.WellFormedness.{IsOntology}
 use Rattle.axioms.specs.declared.ids.IndId.{IndId}
@@ -67,43 +67,23 @@ next_places xs n a b at next = ((n, n + 1, next_apart n, at, next), (n + 1, n, �
 
 -- the axiom makes the two one
 same_given : (a : Axiom) (x y : ℕ) → AxiomGives a (definition.N10 x y) → (xs : List ℕ) × (a ≡ SameIndividuals xs) × (AtTwoPlaces xs x y × AtTwoPlaces xs y x)
-same_given (SubClass c d) x y h = absurd cc
-same_given (EquivalentClasses cs) x y (n, (c, d, at, next, e)) = absurd cc
-same_given (DisjointClasses cs) x y (m, (n, (c, d, l, at, there, e))) = absurd cc
-same_given (SubProperty rs t) x y (inl (q, one, e)) = absurd cc
-same_given (SubProperty rs t) x y (inr (n, (q, l, at, e))) = absurd cc
-same_given (EquivalentProperties rs) x y (n, (p, q, at, next, e)) = absurd cc
-same_given (Domain q c) x y h = absurd cc
-same_given (Transitive q) x y h = absurd cc
-same_given (Reflexive q) x y h = absurd cc
-same_given (ClassAssertion c a) x y h = absurd cc
-same_given (PropertyAssertion q a b) x y h = absurd cc
 same_given (SameIndividuals xs) x y (n, (a, b, at, next, e)) =
     let i : x ≡ a = cc in
     let j : y ≡ b = cc in
     (xs, refl, next_places xs n x y (at ∙ ap Some (sym i)) (next ∙ ap Some (sym j)))
-same_given (DifferentIndividuals xs) x y (m, (n, (a, b, l, at, there, e))) = absurd cc
-same_given (NegativePropertyAssertion q a b) x y h = absurd cc
+same_given (SubProperty rs t) x y (inl h) = absurd cc
+same_given (SubProperty rs t) x y (inr h) = absurd cc
+same_given _ x y h = absurd cc
 
 -- the axiom says that the two differ
 pub different_given : (a : Axiom) (x y : ℕ) → AxiomGives a (definition.N11 x y) → (xs : List ℕ) × (a ≡ DifferentIndividuals xs) × AtTwoPlaces xs x y
-different_given (SubClass c d) x y h = absurd cc
-different_given (EquivalentClasses cs) x y (n, (c, d, at, next, e)) = absurd cc
-different_given (DisjointClasses cs) x y (m, (n, (c, d, l, at, there, e))) = absurd cc
-different_given (SubProperty rs t) x y (inl (q, one, e)) = absurd cc
-different_given (SubProperty rs t) x y (inr (n, (q, l, at, e))) = absurd cc
-different_given (EquivalentProperties rs) x y (n, (p, q, at, next, e)) = absurd cc
-different_given (Domain q c) x y h = absurd cc
-different_given (Transitive q) x y h = absurd cc
-different_given (Reflexive q) x y h = absurd cc
-different_given (ClassAssertion c a) x y h = absurd cc
-different_given (PropertyAssertion q a b) x y h = absurd cc
-different_given (SameIndividuals xs) x y (n, (a, b, at, next, e)) = absurd cc
 different_given (DifferentIndividuals xs) x y (m, (n, (a, b, low, at, there, e))) =
     let i : x ≡ a = cc in
     let j : y ≡ b = cc in
     (xs, refl, (m, n, (λ k. (let bad : ⊥ = omega (arith, k, low) in bad)), at ∙ ap Some (sym i), there ∙ ap Some (sym j)))
-different_given (NegativePropertyAssertion q a b) x y h = absurd cc
+different_given (SubProperty rs t) x y (inl h) = absurd cc
+different_given (SubProperty rs t) x y (inr h) = absurd cc
+different_given _ x y h = absurd cc
 
 links_given : (b : Prefixes) (form : code_form.Form) (g : definition.Form) (a : Axiom) (i j : IndId) → Links form i j → SaysForm b form g → AxiomGives a g → (xs : List ℕ) × (a ≡ SameIndividuals xs) × AtTwoPlaces xs i.0 j.0
 links_given b (forms.N10 x y) _ a i j link (n10 {i' = p} {j' = q} says_x says_y) gives =

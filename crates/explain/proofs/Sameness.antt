@@ -22,7 +22,7 @@ use Rattle.explain.specs.OlderFacts.{rests_on}
 use Rattle.explain.specs.Step.{subject_in}
 use Rattle.explain.specs.Uses.{NamesForm}
 use Rattle.facts.specs.Births.{Reason, numbers_of}
-use Rattle.facts.specs.Closure.{Problem, Gives, in_thing, in_itself, by_form, unsatisfiable, loop, handed_on, different, apart, Concludes, HandsOn, IsLoop}
+use Rattle.facts.specs.Closure.{Problem, Gives, by_form, loop, handed_on, different, apart, Concludes, HandsOn, IsLoop}
 use Rattle.facts.specs.declared.births.Older as code_older
 use Rattle.facts.specs.declared.births.Older.TheVariants as older
 use Rattle.facts.specs.declared.births.FactId.{FactId}
@@ -41,10 +41,8 @@ same_form : (forms : List Form) {n m : ℕ} {form other : Form} → Some n ≡ S
 same_form forms {n} {m} {form} {other} e at there = same_Some other form (sym at ∙ ap (slice_get forms) (same_Some n m e) ∙ there)
 
 nothing_by_same : (k : Problem) (i j : IndId) (older : List Fact) (f : Fact) → Concludes k (N10 i j) older f → ⊥
-nothing_by_same k i j [] f c = c
-nothing_by_same k i j (g ∷ []) f c = c
-nothing_by_same k i j (g ∷ h ∷ []) f c = c
 nothing_by_same k i j (g ∷ h ∷ e ∷ more) f c = c
+nothing_by_same k i j _ f c = c
 
 -- the one fact that is handed on
 pub record IsHandedOn (form : Form) (c : ℕ) (older : List Fact) (f : Fact) : Type 0 where
@@ -54,14 +52,12 @@ pub record IsHandedOn (form : Form) (c : ℕ) (older : List Fact) (f : Fact) : T
   pub eleven : c ≡ 11
 
 gives_same : (k : Problem) {c : ℕ} {place : Option ℕ} {older : List Fact} {f : Fact} (m : ℕ) (i j : IndId) → NamesForm c → Gives k c place older f → place ≡ Some m → slice_get k.forms m ≡ Some (N10 i j) → IsHandedOn (N10 i j) c older f
-gives_same k m i j of_form (in_thing by) e there = absurd (none-some m e)
-gives_same k m i j of_form (in_itself by) e there = absurd (none-some m e)
-gives_same k m i j of_form (unsatisfiable back) e there = absurd (none-some m e)
 gives_same k {older = older} {f = f} m i j of_form (by_form n form at c) e there = absurd (nothing_by_same k i j older f (subst (λ x. Concludes k x older f) (same_form k.forms e at there) c))
 gives_same k {f = f} m i j of_form (loop x n form at is by) e there = absurd (subst (λ y. IsLoop x y f) (same_form k.forms e at there) is)
 gives_same k {f = f} m i j of_form (handed_on {g = g} n form at hands) e there = record { fact = g; only = refl; hands = subst (λ x. HandsOn x g f) (same_form k.forms e at there) hands; eleven = refl }
 gives_same k m i j of_form (different l a b listed same) e there = absurd (of_form.0 refl)
 gives_same k m i j of_form (apart l a b x listed) e there = absurd (of_form.1 refl)
+gives_same k m i j of_form _ e there = absurd (none-some m e)
 
 -- ---- of a saturation
 

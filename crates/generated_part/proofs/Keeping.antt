@@ -27,7 +27,7 @@ at_member : {bound : ℕ} (xs : List ℕ) → All (λ x. x < bound) xs → (n x 
 at_member {bound} xs h n x g = All-contains (λ x. x < bound) xs x h (Contains-from_slice_get xs n x g)
 
 -- in an ascending list a number has one place
-one_place : (xs : List ℕ) → IsStrictlyIncreasing xs → (m n x : ℕ) → slice_get xs m ≡ Some x → slice_get xs n ≡ Some x → m ≡ n
+pub one_place : (xs : List ℕ) → IsStrictlyIncreasing xs → (m n x : ℕ) → slice_get xs m ≡ Some x → slice_get xs n ≡ Some x → m ≡ n
 one_place xs ascend m n x gm gn =
     let below = AllPairs-from_increasing xs ascend in
     let lm = slice_get_within xs m x gm in

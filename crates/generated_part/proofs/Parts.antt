@@ -103,11 +103,9 @@ pairs_step pairs elements places k x g old mid new before step =
 -- ---- all of it
 
 no_target : (ps r n x y : ℕ) → list_any (λ z. z == y) (get_or (get_or (replicate ps (replicate n [])) r []) x []) ≡ false
-no_target zero r n x y = refl
-no_target (suc ps) zero zero x y = refl
-no_target (suc ps) zero (suc n) zero y = refl
 no_target (suc ps) zero (suc n) (suc x) y = no_target (suc ps) zero n x y
 no_target (suc ps) (suc r) n x y = no_target ps r n x y
+no_target _ _ _ _ y = refl
 
 module _ (o : Ontology) (w : IsOntology o) (rows : ByElement) (elements places : List ℕ) (a b c : NumberedInterpretation)
     (members : AddsMembers (IsMemberAt rows.classes elements) (empty_interpretation o.names (length elements)) a) (pairs : AddsPairs (IsPairAt rows.pairs elements places) a b)

@@ -38,14 +38,11 @@ restricted_as lines version most left bytes given r known within same is =
     record { bytes = bytes; bytes_are = known; within = within; are = subst P same is }
 
 not_restricted : (version : Version) (most : ℕ) (left : Option (List ℕ)) (bytes : List ℕ) (fault : DocumentFault) → AreAll most left bytes → IsNotRestricted version fault bytes → IsUnrestricted version most left bytes fault
-not_restricted version most left bytes (reading.NotUtf8 at) all is = (all, is)
-not_restricted version most left bytes (reading.Lex fault) all is = (all, is)
-not_restricted version most left bytes (reading.Parse fault) all is = (all, is)
 not_restricted version most left bytes (reading.Faults found) all is = absurd is
-not_restricted version most left bytes reading.TooManyNames all is = (all, is)
 not_restricted version most left bytes reading.TooLarge all is = absurd is
 not_restricted version most left bytes reading.Io all is = absurd is
 not_restricted version most left bytes reading.Memory all is = tt
+not_restricted version most left bytes _ all is = (all, is)
 
 -- bytes that were read, and are not restricted for this fault
 pub unrestricted : (version : Version) (most : ℕ) (left : Option (List ℕ)) (bytes given : List ℕ) (fault : DocumentFault) → AreKnown left bytes → length bytes ≤ most → given ≡ bytes → IsNotRestricted version fault given → IsUnrestricted version most left bytes fault
@@ -58,33 +55,19 @@ pub unread_unrestricted : (version : Version) (most : ℕ) (left : Option (List 
 unread_unrestricted version most left bytes reading.TooLarge is = is
 unread_unrestricted version most left bytes reading.Io is = tt
 unread_unrestricted version most left bytes reading.Memory is = tt
-unread_unrestricted version most left bytes reading.TooManyNames is = absurd is
-unread_unrestricted version most left bytes (reading.NotUtf8 at) is = absurd is
-unread_unrestricted version most left bytes (reading.Lex fault) is = absurd is
-unread_unrestricted version most left bytes (reading.Parse fault) is = absurd is
-unread_unrestricted version most left bytes (reading.Faults found) is = absurd is
+unread_unrestricted version most left bytes _ is = absurd is
 
 -- their source was read to its end
 pub read_until : (version : Version) (bytes : List ℕ) (fault : DocumentFault) (old new : SourceState) → IsNotRestricted version fault bytes → IsReadToItsEnd old new → IsReadUntil fault old new
-read_until version bytes (reading.NotUtf8 at) old new is read = read
-read_until version bytes (reading.Lex fault) old new is read = read
-read_until version bytes (reading.Parse fault) old new is read = read
-read_until version bytes (reading.Faults found) old new is read = read
-read_until version bytes reading.TooManyNames old new is read = read
 read_until version bytes reading.TooLarge old new is read = absurd is
 read_until version bytes reading.Io old new is read = absurd is
 read_until version bytes reading.Memory old new is read = read.on
+read_until version bytes _ old new is read = read
 
 -- and they were not too many
 pub never_large : (version : Version) (bytes : List ℕ) (fault : DocumentFault) → IsNotRestricted version fault bytes → fault ≡ reading.TooLarge → ⊥
-never_large version bytes (reading.NotUtf8 at) is large = cc
-never_large version bytes (reading.Lex fault) is large = cc
-never_large version bytes (reading.Parse fault) is large = cc
-never_large version bytes (reading.Faults found) is large = cc
-never_large version bytes reading.TooManyNames is large = cc
 never_large version bytes reading.TooLarge is large = is
-never_large version bytes reading.Io is large = cc
-never_large version bytes reading.Memory is large = cc
+never_large version bytes _ is large = cc
 
 -- ---- what is said of a source is said of its file
 
@@ -102,14 +85,10 @@ file_longer most (Some xs) (Some ys) kept longer =
     subst P kept longer
 
 file_unrestricted : (version : Version) (most : ℕ) (file left : Option (List ℕ)) (bytes : List ℕ) (fault : DocumentFault) → Keeps file left → IsUnrestricted version most left bytes fault → IsUnrestricted version most file bytes fault
-file_unrestricted version most file left bytes (reading.NotUtf8 at) kept is = (file_all most file left bytes kept is.0, is.1)
-file_unrestricted version most file left bytes (reading.Lex fault) kept is = (file_all most file left bytes kept is.0, is.1)
-file_unrestricted version most file left bytes (reading.Parse fault) kept is = (file_all most file left bytes kept is.0, is.1)
-file_unrestricted version most file left bytes (reading.Faults found) kept is = (file_all most file left bytes kept is.0, is.1)
-file_unrestricted version most file left bytes reading.TooManyNames kept is = (file_all most file left bytes kept is.0, is.1)
 file_unrestricted version most file left bytes reading.TooLarge kept is = file_longer most file left kept is
 file_unrestricted version most file left bytes reading.Io kept is = tt
 file_unrestricted version most file left bytes reading.Memory kept is = tt
+file_unrestricted version most file left bytes _ kept is = (file_all most file left bytes kept is.0, is.1)
 
 -- ---- restrictions in files
 

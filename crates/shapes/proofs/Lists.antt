@@ -1,6 +1,6 @@
 -- Lists of trees, one tree after the other.
 use Rattle.std.proofs.Common.{◌≡◌, ℕ, suc, ◌+◌, ◌-◌, ◌<◌, ◌≤◌, Bool, true, false, ◌&&◌, ◌||◌, not, List, [], ◌∷◌, ◌++◌, map, take, drop, length, get_or, refl, sym, ap, ap₂, ◌∙◌, arith, add-one, Option, Some, if◌then◌else◌}
-use Rattle.std.proofs.lemmas.List.{drop_more, get_or-drop, length-drop, map-append, take_more, drop_all, append_assoc, append-nil}
+use Rattle.std.proofs.lemmas.List.{drop_more, get_or-drop, length-drop, map-append, take_more, drop_all, append_assoc}
 use Rattle.std.proofs.Math.Bool.{and-false}
 use Rattle.std.proofs.lemmas.Bool.{not-true, not-false}
 use Rattle.std.proofs.lemmas.List.Folds.{list_any-append}
@@ -31,9 +31,6 @@ none_left ts i h = ap trees_of (drop_all i ts h)
 -- what was found, and what is left to be found, are all
 pub one_more : (all found new piece rest left : List Fault) → found ++ left ≡ all → left ≡ piece ++ rest → new ≡ found ++ piece → new ++ rest ≡ all
 one_more all found new piece rest left h e f = ap (λ t. t ++ rest) f ∙ append_assoc found piece rest ∙ ap (λ t. found ++ t) (sym e) ∙ h
-
-pub found_all : (all found left : List Fault) → found ++ left ≡ all → left ≡ [] → found ≡ all
-found_all all found left h e = sym (append-nil found) ∙ ap (λ t. found ++ t) (sym e) ∙ h
 
 -- ---- operands
 

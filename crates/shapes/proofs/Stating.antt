@@ -2,7 +2,7 @@
 use Rattle.std.proofs.Common.{◌≡◌, ℕ, Bool, true, false, Bor, Vec, Global, List, [], ◌∷◌, Some, None, length, ◌<◌, ◌≤◌, take, drop, ◌-◌, refl, sym, ap, ◌∙◌, subst, arith, nat_lt, ◌==◌}
 use Rattle.std.proofs.lemmas.List.{length-drop, take_all}
 use Rattle.std.proofs.lemmas.Bool.{eqb-true, le-ltb, lt-ltb}
-use Rattle.fs_parser.specs.Tree.{Tree, Trees, Form, Empty, Then}
+use Rattle.fs_parser.specs.Tree.{Tree, Trees, Form}
 use Rattle.fs_parser.specs.View.{layer_of, tree_of, trees_of}
 use Rattle.fs_parser.specs.declared.tree.Tree as code
 use Rattle.fs_parser.specs.declared.tree.Tree.TheFolds.{fold-roll-Tree, fold_out-Tree}
@@ -40,11 +40,6 @@ not_many ts few = le-ltb 1 (count_of (trees_of ts)) (omega (arith, count_is ts))
 pub no_declaration : (version : Version) (f : shapes.Form) (ts : Trees) → (f ≡ forms.Declaration → ⊥) → stated_by f ts ≡ axiom_by version (Some f) ts
 no_declaration version forms.Declaration ts h = absurd (h refl)
 no_declaration version _ ts h = refl
-
-pub declares_not_one : (version : Version) (ts : Trees) → (count_of ts == 1) ≡ false → None ≡ axiom_by version (Some forms.Declaration) ts
-declares_not_one version Empty h = refl
-declares_not_one version (Then t Empty) h = cc
-declares_not_one version (Then t (Then u ts)) h = refl
 
 -- ---- trees of the code
 

@@ -16,36 +16,30 @@ returns-in-Some-clause-exact c =
 pub returns-in-None-clause-known : goal.returns-in-None-clause-known
 returns-in-None-clause-known c =
     let o = c.args.indexed.now.ontology in
-    let known = c.in_ok-names-in-Names.ensures.known in
-    subst (λ (q : Question). (false ≡ true) ↔ AreKnown o q) (sym c.in-Names.is) (none_known c.in_ok-names-in-Names.field-0 c.in-None.is (class_is_known o c.in-Names.class.now) known)
+    subst (λ (q : Question). (false ≡ true) ↔ AreKnown o q) (sym c.in-Names.is) (none_known c.in_ok-names-in-Names.field-0 c.in-None.is (class_is_known o c.in-Names.class.now) c.in_ok-names-in-Names.ensures.known)
 
 pub returns-in-None-2-clause-known : goal.returns-in-None-2-clause-known
 returns-in-None-2-clause-known c =
     let o = c.args.indexed.now.ontology in
-    let known = c.in_ok-groups-in-Groups.ensures.known in
-    subst (λ (q : Question). (false ≡ true) ↔ AreKnown o q) (sym c.in-Groups.is) (none_known c.in_ok-groups-in-Groups.field-0 c.in-None-2.is (class_is_known o c.in-Groups.class.now) known)
+    subst (λ (q : Question). (false ≡ true) ↔ AreKnown o q) (sym c.in-Groups.is) (none_known c.in_ok-groups-in-Groups.field-0 c.in-None-2.is (class_is_known o c.in-Groups.class.now) c.in_ok-groups-in-Groups.ensures.known)
 
 pub returns-in-Some-3-clause-known : goal.returns-in-Some-3-clause-known
 returns-in-Some-3-clause-known c =
     let o = c.args.indexed.now.ontology in
-    let known = c.in_ok-explanation-in-Why.ensures.known in
-    subst (λ (q : Question). (true ≡ true) ↔ AreKnown o q) (sym c.in-Why.is) (some_known c.in_ok-explanation-in-Why.field-0 c.in-Some-3.explanation c.in-Some-3.is (both_are_known o c.in-Why.asked c.in-Why.class.now) known)
+    subst (λ (q : Question). (true ≡ true) ↔ AreKnown o q) (sym c.in-Why.is) (some_known c.in_ok-explanation-in-Why.field-0 c.in-Some-3.explanation c.in-Some-3.is (both_are_known o c.in-Why.asked c.in-Why.class.now) c.in_ok-explanation-in-Why.ensures.known)
 
 pub returns-in-None-4-clause-known : goal.returns-in-None-4-clause-known
 returns-in-None-4-clause-known c =
     let o = c.args.indexed.now.ontology in
-    let known = c.in_ok-names-in-Types.ensures.known in
-    subst (λ (q : Question). (false ≡ true) ↔ AreKnown o q) (sym c.in-Types.is) (none_known c.in_ok-names-in-Types.field-0 c.in-None-4.is (individual_is_known o c.in-Types.individual.now) known)
+    subst (λ (q : Question). (false ≡ true) ↔ AreKnown o q) (sym c.in-Types.is) (none_known c.in_ok-names-in-Types.field-0 c.in-None-4.is (individual_is_known o c.in-Types.individual.now) c.in_ok-names-in-Types.ensures.known)
 
 pub returns-in-None-5-clause-known : goal.returns-in-None-5-clause-known
 returns-in-None-5-clause-known c =
     let o = c.args.indexed.now.ontology in
-    let known = c.in_ok-groups-in-DirectTypes.ensures.known in
     subst (λ (q : Question). (false ≡ true) ↔ AreKnown o q) (sym c.in-DirectTypes.is)
-    (none_known c.in_ok-groups-in-DirectTypes.field-0 c.in-None-5.is (individual_is_known o c.in-DirectTypes.individual.now) known)
+    (none_known c.in_ok-groups-in-DirectTypes.field-0 c.in-None-5.is (individual_is_known o c.in-DirectTypes.individual.now) c.in_ok-groups-in-DirectTypes.ensures.known)
 
 pub returns-in-Some-6-clause-known : goal.returns-in-Some-6-clause-known
 returns-in-Some-6-clause-known c =
     let o = c.args.indexed.now.ontology in
-    let known = c.in_ok-lacking-in-Lacks.ensures.known in
-    subst (λ (q : Question). (true ≡ true) ↔ AreKnown o q) (sym c.in-Lacks.is) (some_known c.in_ok-lacking-in-Lacks.field-0 c.in-Some-6.lacking c.in-Some-6.is (both_are_known o c.in-Lacks.asked c.in-Lacks.class.now) known)
+    subst (λ (q : Question). (true ≡ true) ↔ AreKnown o q) (sym c.in-Lacks.is) (some_known c.in_ok-lacking-in-Lacks.field-0 c.in-Some-6.lacking c.in-Some-6.is (both_are_known o c.in-Lacks.asked c.in-Lacks.class.now) c.in_ok-lacking-in-Lacks.ensures.known)

@@ -12,11 +12,10 @@ pub returns-in-EquivalentClasses : goal.returns-in-EquivalentClasses
 returns-in-EquivalentClasses c =
     let number = c.args.number in
     let e = c.args.class.0 in
-    let items = c.in-EquivalentClasses.operands.items in
     let pushed = c.push_others-in-EquivalentClasses in
     let same : numbered_conditions e (number, axiom_of c.args.axiom.now) ≡ stated_by number e c.deref-in-EquivalentClasses.result.now =
     ap (λ (a : Axiom). numbered_conditions e (number, axiom_of a)) c.in-EquivalentClasses.is
-    ∙ stated_all number e items (subst (λ (xs : List ExprId). list_any (λ (x : ExprId). x.0 == e) xs ≡ true) c.deref.ensures.value (sym c.contains.ensures.value ∙ c.if-contains.true))
+    ∙ stated_all number e c.in-EquivalentClasses.operands.items (subst (λ (xs : List ExprId). list_any (λ (x : ExprId). x.0 == e) xs ≡ true) c.deref.ensures.value (sym c.contains.ensures.value ∙ c.if-contains.true))
     ∙ ap (stated_by number e) (sym c.deref-in-EquivalentClasses.ensures.value) in
     subst (λ (ps : List (ℕ × ℕ)). OnOk pushed.result (map stated_pair pushed.new.found.items ≡ map stated_pair c.args.found.now.items ++ ps)) (sym same) pushed.ensures
 

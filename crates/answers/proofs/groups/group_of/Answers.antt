@@ -17,7 +17,6 @@ names_of-requires-clause-within c =
 
 pub returns : goal.returns
 returns c =
-    let o = c.args.ontology.now in
     IfOk-weaker c.names_of.result _ _
-    (λ v those. group_is o c.args.lists.now c.args.name.now c.in-Some.class c.in-Some.ensures c.requires.tells c.in_ok-same.same.items c.in_ok-same.ensures.exact _ c.classes.ensures.names c.deref.result.now c.deref.ensures.value _ those)
+    (λ v those. group_is c.args.ontology.now c.args.lists.now c.args.name.now c.in-Some.class c.in-Some.ensures c.requires.tells c.in_ok-same.same.items c.in_ok-same.ensures.exact _ c.classes.ensures.names c.deref.result.now c.deref.ensures.value _ those)
     c.names_of.ensures

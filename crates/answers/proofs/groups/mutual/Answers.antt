@@ -10,12 +10,11 @@ use Rattle.answers.proofs.groups.mutual.Goals.{then-has+in_ok-push, else-has}
 
 pub loop-other-preserved : goal.loop-other-preserved
 loop-other-preserved c =
-    let lists = c.args.lists.now in
-    let xs = list_at lists c.args.class in
+    let xs = list_at c.args.lists.now c.args.class in
     let k = c.loop-other.other-index in
     let x = get_or c.at-other-items.result.now k 0 in
     let at = subst (λ (l : List ℕ). slice_get l k ≡ Some x) c.at-other-items.ensures (slice_get-get_or c.at-other-items.result.now k 0 c.loop-other-test.true) in
-    let passes = λ (d : ℕ). is_listed lists d c.args.class ≡ true in
+    let passes = λ (d : ℕ). is_listed c.args.lists.now d c.args.class ≡ true in
     elim c.if-has.branch [
       | then-has+in_ok-push w ↦ passed xs k x at passes c.loop-other.found.items c.loop-other.invariant c.if-has.found.items (rw w.found-is w.in_ok-push.ensures.items) (sym c.has.ensures ∙ w.if-has.true)
       | else-has w ↦ rw w.found-is (failed xs k x at passes c.loop-other.found.items c.loop-other.invariant (λ t. false≢true (sym w.if-has.false ∙ c.has.ensures ∙ t)))
@@ -23,8 +22,7 @@ loop-other-preserved c =
 
 pub returns : goal.returns
 returns c = λ d.
-    let lists = c.args.lists.now in
-    let xs = list_at lists c.args.class in
+    let xs = list_at c.args.lists.now c.args.class in
     let end = take_all c.loop-other.other-index xs (subst (λ (l : List ℕ). length l ≤ c.loop-other.other-index) c.at-other-items.ensures c.loop-other-test.false) in
     let was = c.loop-other.invariant d in
     let is = listed_is xs d in (

@@ -1,4 +1,4 @@
-use Rattle.answers.proofs.Grouping.{ascending_once}
+use Rattle.normalise.proofs.Marked.{ascending_once}
 use Rattle.answers.proofs.groups.mutual_once.Goals as goal
 
 pub returns-clause-once : goal.returns-clause-once

@@ -6,10 +6,9 @@ use Rattle.answers.proofs.lacking.is_fact.Goals as goal
 
 pub returns : goal.returns
 returns c =
-    let o = c.args.indexed.now.ontology in
     let s = c.args.indexed.now.saturation in
     let w = whole_ontology c.closed.ensures c.well_formed-2.ensures.ontology in
     let h = whole_saturation c.closed.ensures c.well_formed-2.ensures.saturated in
     let there = found_in s.state.facts (In (Expr c.args.expression) c.args.subject) c.find.result c.is_some.result c.is_some.ensures c.find.ensures.there c.find.ensures.none in
-    let says = said o w s h c.args.subject c.args.expression in
+    let says = said c.args.indexed.now.ontology w s h c.args.subject c.args.expression in
     (λ t. says.0 (there.0 t), λ f. there.1 (says.1 f))

@@ -16,14 +16,13 @@ classes_by-requires c = λ n there.
 pub returns : goal.returns
 returns c =
     let o = c.args.indexed.now.ontology in
-    let facts = c.args.indexed.now.saturation.state.facts in
     let numbers = c.classes_in-numbers.result.now in
     let w = whole_ontology c.closed-closed.ensures c.well_formed-2.ensures.ontology in
     IfOk-weaker c.classes_by.result _ _
     (λ v found d.
     let found = subst₂ (λ (o : Ontology) (fs : List Fact). Contains v.items d ↔ PutsOneBelow o fs numbers d)
     (same_ontology c.ontology.ensures c.closed-closed.ensures) (same_facts c.facts.ensures c.closed-closed.ensures) (found d) in
-    let same = above_by_context o w facts c.args.class c.in-Some.expression c.in-Some.ensures.found numbers c.classes_in-numbers.ensures d in
+    let same = above_by_context o w c.args.indexed.now.saturation.state.facts c.args.class c.in-Some.expression c.in-Some.ensures.found numbers c.classes_in-numbers.ensures d in
     (λ there. same.0 (found.0 there), λ h. found.1 (same.1 h)))
     c.classes_by.ensures
 

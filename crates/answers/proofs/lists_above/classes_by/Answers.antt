@@ -16,7 +16,6 @@ bounds-facts-number c =
 
 pub loop-number-preserved : goal.loop-number-preserved
 loop-number-preserved c =
-    let o = c.args.ontology.now in
     let facts = c.args.facts.now in
     let numbers = c.args.numbers.now in
     let i = c.loop-number.number-index in
@@ -25,8 +24,8 @@ loop-number-preserved c =
     let there = slice_get-get_or facts m _ (c.requires m (Contains-from_slice_get numbers i m at)) in
     let found = c.loop-number.found.items in
     elim c.match-class_pair.branch [
-      | in-Some+in_ok-push w ↦ one_found o facts numbers i m _ at there found c.loop-number.invariant _ w.in-Some.above.0 (rw c.index-facts-number.is at w.in-Some.ensures.pair) c.match-class_pair.found.items (rw w.found-is w.in_ok-push.ensures.items)
-      | in_default w ↦ rw w.found-is (none_found o facts numbers i m _ at there found c.loop-number.invariant (rw c.index-facts-number.is at w.in_default.ensures.pair))
+      | in-Some+in_ok-push w ↦ one_found c.args.ontology.now facts numbers i m _ at there found c.loop-number.invariant _ w.in-Some.above.0 (rw c.index-facts-number.is at w.in-Some.ensures.pair) c.match-class_pair.found.items (rw w.found-is w.in_ok-push.ensures.items)
+      | in_default w ↦ rw w.found-is (none_found c.args.ontology.now facts numbers i m _ at there found c.loop-number.invariant (rw c.index-facts-number.is at w.in_default.ensures.pair))
     ]
 
 pub returns : goal.returns

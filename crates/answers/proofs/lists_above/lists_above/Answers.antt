@@ -5,10 +5,9 @@ use Rattle.answers.proofs.lists_above.lists_above.Goals as goal
 pub loop-class-preserved : goal.loop-class-preserved
 loop-class-preserved c =
     let o = c.args.indexed.now.ontology in
-    let marks = c.args.marks.now in
     let facts = c.args.indexed.now.saturation.state.facts in
-    one_more_list o marks facts c.loop-class.class c.loop-class.lists c.push_list.new.self c.deref.result.now c.loop-class.invariant c.in_ok-push_list.ensures.ok
-    (subst (IsListOf o marks facts c.loop-class.class) (sym c.deref.ensures.value) c.in_ok-list.ensures)
+    one_more_list o c.args.marks.now facts c.loop-class.class c.loop-class.lists c.push_list.new.self c.deref.result.now c.loop-class.invariant c.in_ok-push_list.ensures.ok
+    (subst (IsListOf o c.args.marks.now facts c.loop-class.class) (sym c.deref.ensures.value) c.in_ok-list.ensures)
 
 pub returns : goal.returns
 returns c =

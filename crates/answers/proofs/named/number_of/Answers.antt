@@ -6,7 +6,5 @@ use Rattle.answers.proofs.named.number_of.Goals as goal
 
 pub returns : goal.returns
 returns c =
-    let kind = c.args.kind in
-    let name = c.args.name.now in
-    subst (λ (o : Ontology). MatchOption c.number_of.result (Contains (names_of o.names kind) name → ⊥) (λ n. slice_get (names_of o.names kind) n ≡ Some name))
+    subst (λ (o : Ontology). MatchOption c.number_of.result (Contains (names_of o.names c.args.kind) c.args.name.now → ⊥) (λ n. slice_get (names_of o.names c.args.kind) n ≡ Some c.args.name.now))
     (same_ontology c.ontology.ensures c.closed.ensures) c.number_of.ensures

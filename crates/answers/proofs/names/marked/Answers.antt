@@ -10,13 +10,12 @@ use Rattle.answers.proofs.names.marked.Goals.{then-words-j-ne0+in_ok-push_marked
 pub loop-j-preserved : goal.loop-j-preserved
 loop-j-preserved c =
     let names = map string_bytes c.args.names.now in
-    let marks = c.args.marks.now in
     let found = map (λ s. s.now) c.loop-j.found.items in
     let j : ℕ = c.loop-j.j in
     elim c.if-words-j-ne0.branch [
       | then-words-j-ne0+in_ok-push_marked w ↦ rw w.found-is w.in_ok-push_marked.ensures
       | else-words-j-ne0 w ↦ rw w.found-is
-          (subst (λ n. AreMarkedBelow n names marks found) (omega arith) (blank marks names found (64 * j) (slice_index c.words-words.result.now j) (c.words-words.ensures.bits j) w.if-words-j-ne0.false c.loop-j.invariant))
+          (subst (λ n. AreMarkedBelow n names c.args.marks.now found) (omega arith) (blank c.args.marks.now names found (64 * j) (slice_index c.words-words.result.now j) (c.words-words.ensures.bits j) w.if-words-j-ne0.false c.loop-j.invariant))
     ]
 
 pub returns : goal.returns

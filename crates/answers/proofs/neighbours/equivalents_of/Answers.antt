@@ -13,6 +13,5 @@ marks_among-requires-clause-root c = class_root c.args.indexed.now.ontology c.ar
 pub returns : goal.returns
 returns c = λ name named.
     let o = c.args.indexed.now.ontology in
-    let same = c.intersect.new.self in
-    let are = same_classes o name c.args.class named c.in_ok-same.same c.in_ok-below.below same c.intersect.ensures.len c.in_ok-same.ensures c.in_ok-below.ensures c.intersect.ensures.members in
-    those_marked o.names.classes (AreSame o name) same are _ c.in_ok-names.ensures
+    let are = same_classes o name c.args.class named c.in_ok-same.same c.in_ok-below.below c.intersect.new.self c.intersect.ensures.len c.in_ok-same.ensures c.in_ok-below.ensures c.intersect.ensures.members in
+    those_marked o.names.classes (AreSame o name) c.intersect.new.self are _ c.in_ok-names.ensures

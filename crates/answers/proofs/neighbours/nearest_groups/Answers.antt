@@ -45,12 +45,10 @@ returns c =
     let s = c.args.indexed.now.saturation in
     let w = whole_ontology c.closed-closed.ensures c.well_formed-2.ensures.ontology in
     let h = whole_saturation c.closed-closed.ensures c.well_formed-2.ensures.saturated in
-    let marks = c.args.marks in
-    let lists = c.in_ok-lists.lists in
     let names = map (λ name. name.now) c.deref.result.now in
-    let listed = listed_below o w s h marks c.requires.long c.requires.satisfiable lists c.in_ok-lists.ensures in
+    let listed = listed_below o w s h c.args.marks c.requires.long c.requires.satisfiable c.in_ok-lists.lists c.in_ok-lists.ensures in
     let those = subst (λ (names : List (Bor Iri)). AreThose o.names.classes (HasMark o.names.classes c.minus.new.self) (map (λ name. name.now) names)) (sym c.deref.ensures.value) c.in_ok-names.ensures in
-    let near = near_names o w s.state.facts marks c.requires.long c.requires.satisfiable lists c.in_ok-lists.ensures listed c.args.side c.in_ok-far.far c.minus.new.self c.in_ok-far.ensures.exact c.minus.ensures.len c.minus.ensures.members names those in
+    let near = near_names o w s.state.facts c.args.marks c.requires.long c.requires.satisfiable c.in_ok-lists.lists c.in_ok-lists.ensures listed c.args.side c.in_ok-far.far c.minus.new.self c.in_ok-far.ensures.exact c.minus.ensures.len c.minus.ensures.members names those in
     IfOk-weaker c.groups_of.result _ _
     (λ v are. near.groups (groups_in v.items) (subst (λ (o : Ontology). AreGroups o (Contains names) (groups_in v.items)) (same_ontology c.ontology-ontology.ensures c.closed-closed.ensures) are))
     c.groups_of.ensures

@@ -17,10 +17,8 @@ names_in_order-requires c =
 pub returns : goal.returns
 returns c =
     let o = c.args.indexed.now.ontology in
-    let q = c.args.selection in
-    let marks = c.in_ok-marks.marks in
     IfOk-weaker c.names_in_order.result _ _
     (λ v those.
     let answer = map (λ s. s.now) v.items in
-    those_marked (names_asked o q) (FollowsFor o q) marks c.in_ok-marks.ensures answer (subst (λ (names : List Iri). AreThose names (HasMark names marks) answer) c.requires.names those))
+    those_marked (names_asked o c.args.selection) (FollowsFor o c.args.selection) c.in_ok-marks.marks c.in_ok-marks.ensures answer (subst (λ (names : List Iri). AreThose names (HasMark names c.in_ok-marks.marks) answer) c.requires.names those))
     c.names_in_order.ensures

@@ -17,6 +17,5 @@ pub returns : goal.returns
 returns c =
     let o = c.args.indexed.now.ontology in
     let w = whole_ontology c.closed.ensures c.well_formed-2.ensures.ontology in
-    let left = c.minus.new.self in
-    let are = unsatisfiable_are o w c.in_ok-empty.empty c.in_ok-nothing.nothing left c.in_ok-empty.ensures c.in_ok-nothing.ensures c.minus.ensures.len c.minus.ensures.members in
-    those_marked o.names.classes (IsUnsatisfiable o) left are _ c.in_ok-names.ensures
+    let are = unsatisfiable_are o w c.in_ok-empty.empty c.in_ok-nothing.nothing c.minus.new.self c.in_ok-empty.ensures c.in_ok-nothing.ensures c.minus.ensures.len c.minus.ensures.members in
+    those_marked o.names.classes (IsUnsatisfiable o) c.minus.new.self are _ c.in_ok-names.ensures

@@ -22,6 +22,5 @@ returns-clause-made_for c = made_for c.args.closed.now.ontology c.has_no_contrad
 
 pub returns-clause-follows : goal.returns-clause-follows
 returns-clause-follows c =
-    let w = c.well_formed-2.ensures in
     let consistent = c.has_no_contradiction-consistent in
-    outcome_follows c.args.closed.now.ontology w.ontology c.args.closed.now.saturation w.saturated c.requires.unasked consistent.result consistent.ensures _ c.in_ok-outcome.ensures
+    outcome_follows c.args.closed.now.ontology c.well_formed-2.ensures.ontology c.args.closed.now.saturation c.well_formed-2.ensures.saturated c.requires.unasked consistent.result consistent.ensures _ c.in_ok-outcome.ensures

@@ -20,20 +20,18 @@ by_finding lent own same w h =
 
 pub returns-then-not-is_in_nothing : goal.returns-then-not-is_in_nothing
 returns-then-not-is_in_nothing c =
-    let own = c.args.indexed.now in
     let lent = c.closed-closed in
-    let by = by_finding lent.result.now own lent.ensures c.well_formed-2.ensures.ontology c.well_formed-2.ensures.saturated in
+    let by = by_finding lent.result.now c.args.indexed.now lent.ensures c.well_formed-2.ensures.ontology c.well_formed-2.ensures.saturated in
     let many = c.individuals.ensures.count ∙ ap (λ (o : Ontology). length o.names.individuals) (c.ontology-ontology.ensures ∙ ap (λ (k : Closed). k.ontology) lent.ensures) in
     let none = c.has_no_impossible_individual in
-    let free = subst (λ n. IsTrue none.result ↔ NoIndividualIsImpossible n own.saturation.state.facts) many none.ensures in (
+    let free = subst (λ n. IsTrue none.result ↔ NoIndividualIsImpossible n c.args.indexed.now.saturation.state.facts) many none.ensures in (
       λ t. by.0 ((λ there. false≢true (sym c.if-not-is_in_nothing.true ∙ c.is_in_nothing.ensures.1 there)), free.0 t),
       λ k. free.1 ((by.1 k).1),
     )
 
 pub returns-else-not-is_in_nothing : goal.returns-else-not-is_in_nothing
 returns-else-not-is_in_nothing c =
-    let lent = c.closed-closed in
-    let by = by_finding lent.result.now c.args.indexed.now lent.ensures c.well_formed-2.ensures.ontology c.well_formed-2.ensures.saturated in
+    let by = by_finding c.closed-closed.result.now c.args.indexed.now c.closed-closed.ensures c.well_formed-2.ensures.ontology c.well_formed-2.ensures.saturated in
     let there = c.is_in_nothing.ensures.0 c.if-not-is_in_nothing.false in (
       λ t. absurd (false≢true (subst (λ b. IsTrue (not b)) c.if-not-is_in_nothing.false t)),
       λ k. absurd ((by.1 k).0 there),

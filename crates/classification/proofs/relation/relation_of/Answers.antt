@@ -9,7 +9,6 @@ pub returns : goal.returns
 returns c =
     let o = c.args.closed.now.ontology in
     let s = c.args.closed.now.saturation in
-    let lists = c.in_ok-lists.lists in
     let relation = c.in_ok-relation in
-    is_taxonomy o c.well_formed-2.ensures.ontology (prefixes_of s.normal) s.state.facts (say_alone o s c.well_formed-2.ensures.saturated c.requires.unasked) lists
-    (subst₂ (λ p fs. AreClassLists p fs lists) c.ontology.ensures c.facts.ensures c.in_ok-lists.ensures) relation.relation relation.ensures.size relation.ensures.each
+    is_taxonomy o c.well_formed-2.ensures.ontology (prefixes_of s.normal) s.state.facts (say_alone o s c.well_formed-2.ensures.saturated c.requires.unasked) c.in_ok-lists.lists
+    (subst₂ (λ p fs. AreClassLists p fs c.in_ok-lists.lists) c.ontology.ensures c.facts.ensures c.in_ok-lists.ensures) relation.relation relation.ensures.size relation.ensures.each

@@ -13,9 +13,8 @@ loop-number-preserved c =
     let claims = map claim_of c.loop-number.claims.items in
     elim c.match-own_element.branch [
       | in-Some+in_ok-push w ↦
-          let own = w.in-Some.ensures in
           subst (AreFirstClaims o elements (number + 1)) (sym (ap (λ v. map claim_of v.items) w.claims-is ∙ (ap (map claim_of) w.in_ok-push.ensures.items ∙ map-append claim_of c.loop-number.claims.items _)))
-          (one_claimed o elements number claims c.loop-number.invariant w.in-Some.element own (λ n other. one_own o elements c.requires number w.in-Some.element n own other))
+          (one_claimed o elements number claims c.loop-number.invariant w.in-Some.element w.in-Some.ensures (λ n other. one_own o elements c.requires number w.in-Some.element n w.in-Some.ensures other))
       | in_default w ↦
           subst (AreFirstClaims o elements (number + 1)) (sym (ap (λ v. map claim_of v.items) w.claims-is))
           (none_claimed o elements number claims c.loop-number.invariant w.in_default.ensures)

@@ -13,9 +13,8 @@ returns g c =
     let o = c.args.closed.now.ontology in
     let s = c.args.closed.now.saturation in
     let elements = c.args.elements.now in
-    let facts = c.args.facts.now in
-    let put = subst (λ (x : Ontology). AreMembers x elements facts c.in_ok-lists.lists) c.ontology-ontology.ensures c.in_ok-lists.ensures.members in
-    let members = members_in elements s.state.facts facts c.requires.facts o (HasNumber c.in_ok-lists.lists) put in
+    let put = subst (λ (x : Ontology). AreMembers x elements c.args.facts.now c.in_ok-lists.lists) c.ontology-ontology.ensures c.in_ok-lists.ensures.members in
+    let members = members_in elements s.state.facts c.args.facts.now c.requires.facts o (HasNumber c.in_ok-lists.lists) put in
     adds_weaker c.add_rows_of.result _ _ _
     (λ rows are. rows_are o s.normal.asked (prefixes_of s.normal) elements s.state.facts c.well_formed-2.ensures.saturated.facts (HasNumber c.in_ok-lists.lists) members (map class_row_of rows) are)
     c.add_rows_of.ensures

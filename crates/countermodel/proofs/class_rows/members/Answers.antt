@@ -1,4 +1,4 @@
-use Rattle.std.proofs.Common.{◌+◌, [], ◌∷◌, ◌++◌, replicate, ap, sym, ◌∙◌, subst}
+use Rattle.std.proofs.Common.{◌+◌, [], ◌∷◌, ◌++◌, ap, sym, ◌∙◌, subst}
 use Rattle.std.proofs.lemmas.Option.{MatchOption-at_none, MatchOption-at_some}
 use Rattle.std.specs.Prelude.{slice_set}
 use Rattle.number_sets.specs.Pieces.{list_at}
@@ -8,8 +8,7 @@ use Rattle.countermodel.proofs.class_rows.members.Goals.{in-Some+in_ok-push, in_
 
 pub loop-fact-init : goal.loop-fact-init
 loop-fact-init c =
-    let o = c.args.ontology.now in
-    subst (HasPut o c.args.elements.now c.args.facts.now 0) (sym (c.in_ok-lists.ensures ∙ ap (λ n. replicate n []) c.expression_count.ensures)) (none_put o c.args.elements.now c.args.facts.now)
+    subst (HasPut c.args.ontology.now c.args.elements.now c.args.facts.now 0) (sym c.in_ok-lists.ensures) (none_put c.args.ontology.now c.args.elements.now c.args.facts.now)
 
 pub loop-fact-preserved : goal.loop-fact-preserved
 loop-fact-preserved c =

@@ -8,13 +8,9 @@ use Rattle.countermodel.proofs.edges.add_fact.Goals as goal
 
 pub returns-clause-added : goal.returns-clause-added
 returns-clause-added c =
-    let x = c.in-Edge.x in
-    let y = c.in-Edge.y in
-    let id = c.in-Property.property in
-    let k = c.args.closure.now in
     let elements = c.args.elements.now in
-    let is = c.in-Edge.is ∙ ap (λ q. Edge x q y) c.in-Property.is in
+    let is = c.in-Edge.is ∙ ap (λ q. Edge c.in-Edge.x q c.in-Edge.y) c.in-Property.is in
     let old = c.args.keys.now in
     let new = c.add_above.new.keys in
-    let by = of_edge (λ p. IsWithin c.args.range.now p × (p.property.0 < length old)) k elements x y id c.in-Some.source c.in-Some-element.target old new c.requires c.in-Some.ensures c.in-Some-element.ensures c.in_ok-add_above.ensures.added in
-    subst (λ (f : Fact). AddsPairs (Within (length old) c.args.range.now (IsGivenBy k elements f)) old new) (sym is) by
+    let by = of_edge (λ p. IsWithin c.args.range.now p × (p.property.0 < length old)) c.args.closure.now elements c.in-Edge.x c.in-Edge.y c.in-Property.property c.in-Some.source c.in-Some-element.target old new c.requires c.in-Some.ensures c.in-Some-element.ensures c.in_ok-add_above.ensures.added in
+    subst (λ (f : Fact). AddsPairs (Within (length old) c.args.range.now (IsGivenBy c.args.closure.now elements f)) old new) (sym is) by

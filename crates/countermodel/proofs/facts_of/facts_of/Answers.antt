@@ -22,14 +22,10 @@ pub loop-context-preserved : goal.loop-context-preserved
 loop-context-preserved c =
     let facts = c.args.indexed.now.saturation.state.facts in
     let is : c.facts-all.result.now ≡ facts = c.facts-all.ensures ∙ ap (λ k. k.saturation.state.facts) c.closed-closed.ensures in
-    let contexts = c.args.contexts.now in
     let k = c.loop-context.context-index in
-    let low = c.loop-context-test.true in
-    let classes = c.classes_in.result.now in
-    let edges = c.edges_from.result.now in
     let old = c.loop-context.facts.items in
     let now = c.push_facts.new.facts.items in
     let new = c.push_facts-in-loop-context.new.facts.items in
-    of_one_more facts contexts k _ low (slice_get-get_or contexts k _ low) classes c.classes_in.ensures edges c.edges_from.ensures old now new c.loop-context.invariant
-    (subst (λ (fs : List Fact). AddsFacts fs classes old now) is c.in_ok-push_facts.ensures)
-    (subst (λ (fs : List Fact). AddsFacts fs edges now new) is c.in_ok-push_facts-2.ensures)
+    of_one_more facts c.args.contexts.now k _ c.loop-context-test.true (slice_get-get_or c.args.contexts.now k _ c.loop-context-test.true) c.classes_in.result.now c.classes_in.ensures c.edges_from.result.now c.edges_from.ensures old now new c.loop-context.invariant
+    (subst (λ (fs : List Fact). AddsFacts fs c.classes_in.result.now old now) is c.in_ok-push_facts.ensures)
+    (subst (λ (fs : List Fact). AddsFacts fs c.edges_from.result.now now new) is c.in_ok-push_facts-2.ensures)

@@ -7,12 +7,11 @@ use Rattle.countermodel.proofs.individuals.individual_elements.Goals as goal
 
 pub unreachable-requires : goal.unreachable-requires
 unreachable-requires c =
-    let o = c.args.ontology.now in
     let groups = c.args.groups.now in
     let number = c.loop-number.number in
     let there = c.requires.there number (omega (arith, c.individuals-number-end.ensures.count, c.loop-number-test.true)) in
     let is : IsLeastBy groups (record { 0 = number }) c.least-least.result = record { same = c.least-least.ensures.same groups c.requires.groups.1.links; low = λ b. c.least-least.ensures.low groups b c.requires.groups.1.links } in
-    c.in_default.ensures there.0 (there.1 ∙ ap (λ a. Some (Individual a)) (sym (least_is o c.requires.groups.0 groups c.requires.groups.1 (record { 0 = number }) c.least-least.result is)))
+    c.in_default.ensures there.0 (there.1 ∙ ap (λ a. Some (Individual a)) (sym (least_is c.args.ontology.now c.requires.groups.0 groups c.requires.groups.1 (record { 0 = number }) c.least-least.result is)))
 
 pub loop-number-preserved : goal.loop-number-preserved
 loop-number-preserved c =

@@ -20,8 +20,7 @@ returns-then-eq c =
 
 pub returns : goal.returns
 returns c =
-    let row = c.in-Some.row in
     on_ok_weaker c.add_row-2.result
-    (row_begun c.args.class.0 c.args.element c.args.rows.now.items c.add_row-2.new.rows.items c.pop.new.self.items row c.in-Some.ensures.items c.push-2.new.self.items c.in_ok-push-3.ensures.items
-    (λ same. both_ways c.eq.result c.if-eq.false (c.eq.ensures ∙ (Decides-eqb row.class.0 c.args.class.0).1 same)))
+    (row_begun c.args.class.0 c.args.element c.args.rows.now.items c.add_row-2.new.rows.items c.pop.new.self.items c.in-Some.row c.in-Some.ensures.items c.push-2.new.self.items c.in_ok-push-3.ensures.items
+    (λ same. both_ways c.eq.result c.if-eq.false (c.eq.ensures ∙ (Decides-eqb c.in-Some.row.class.0 c.args.class.0).1 same)))
     c.add_row-2.ensures

@@ -10,11 +10,9 @@ loop-key-init c = subst (λ (rs : List ClassRow). AreRowsBy (HasKey (take 0 c.ar
 
 pub loop-key-preserved : goal.loop-key-preserved
 loop-key-preserved c =
-    let keys = c.args.keys.now in
-    let k = c.loop-key.key-index in
     let old = map class_row_of c.loop-key.rows.items in
     let new = map class_row_of c.add_member.new.rows.items in
-    key_added keys c.requires k c.loop-key-test.true old new
+    key_added c.args.keys.now c.requires c.loop-key.key-index c.loop-key-test.true old new
     (subst₂ (λ (e m : ℕ). AddsMember e m old new) c.member_with-element.ensures.class c.member_with-element.ensures.element c.in_ok-add_member.ensures) c.loop-key.invariant
 
 pub returns : goal.returns

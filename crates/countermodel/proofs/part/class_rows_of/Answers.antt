@@ -16,15 +16,13 @@ returns-then-facts-expression_count c =
     let o = c.args.closed.now.ontology in
     let s = c.args.closed.now.saturation in
     let elements = c.args.elements.now in
-    let facts = c.args.facts.now in
     IfOk-weaker c.rows_by_keys.result _ _
     (λ v (keys, says, rows).
-    let here = subst (λ (x : Ontology). SayMembers x elements facts (HasKey keys)) c.ontology-ontology.ensures says in
+    let here = subst (λ (x : Ontology). SayMembers x elements c.args.facts.now (HasKey keys)) c.ontology-ontology.ensures says in
     rows_are o s.normal.asked (prefixes_of s.normal) elements s.state.facts c.well_formed-2.ensures.saturated.facts (HasKey keys)
-    (members_in elements s.state.facts facts c.requires.facts o (HasKey keys) here) (map class_row_of v.items) rows)
+    (members_in elements s.state.facts c.args.facts.now c.requires.facts o (HasKey keys) here) (map class_row_of v.items) rows)
     c.rows_by_keys.ensures
 
 pub returns : goal.returns
 returns c =
-    let k = c.args.closed.now in
-    all_taken (λ (rs : List ClassRow). AreClassRows k.ontology k.saturation.normal.asked c.args.elements.now (map class_row_of rs)) c.new-rows.result.items c.add_class_rows.new.rows.items c.new-rows.ensures.items c.in_ok-add_class_rows.ensures
+    all_taken (λ (rs : List ClassRow). AreClassRows c.args.closed.now.ontology c.args.closed.now.saturation.normal.asked c.args.elements.now (map class_row_of rs)) c.new-rows.result.items c.add_class_rows.new.rows.items c.new-rows.ensures.items c.in_ok-add_class_rows.ensures

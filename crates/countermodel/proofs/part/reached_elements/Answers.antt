@@ -38,15 +38,14 @@ of_expressions-requires-clause-ascend c = subst Ascends (sym c.deref-2.ensures.v
 pub of_expressions-requires-clause-numbers : goal.of_expressions-requires-clause-numbers
 of_expressions-requires-clause-numbers c =
     let s = c.in_ok-satisfiable.satisfiable in
-    let found = c.deref.ensures.value in
     let search = c.in_ok-found.ensures.search in
     let says : (e : ℕ) → Contains c.in_ok-expressions.expressions.items e ↔ IsAdmitted s (Expression e) = λ e. (
       λ there.
-          let c' = subst (λ (xs : List code.Context). Contains xs (expression_at e)) found ((c.in_ok-expressions.ensures.same e).0 there) in
+          let c' = subst (λ (xs : List code.Context). Contains xs (expression_at e)) c.deref.ensures.value ((c.in_ok-expressions.ensures.same e).0 there) in
           c.in_ok-satisfiable.ensures (Expression e) ∙ (search.same (expression_at e)).1 c',
       λ is.
           let c' = (search.same (expression_at e)).0 (sym (c.in_ok-satisfiable.ensures (Expression e)) ∙ is) in
-          (c.in_ok-expressions.ensures.same e).1 (subst (λ (xs : List code.Context). Contains xs (expression_at e)) (sym found) c'),
+          (c.in_ok-expressions.ensures.same e).1 (subst (λ (xs : List code.Context). Contains xs (expression_at e)) (sym c.deref.ensures.value) c'),
     ) in
     subst (λ (ns : List ℕ). (e : ℕ) → Contains ns e ↔ IsAdmitted s (Expression e)) (sym c.deref-2.ensures.value) says
 
@@ -55,10 +54,9 @@ returns c =
     let o = c.args.indexed.now.ontology in
     let asked = c.args.indexed.now.saturation.normal.asked in
     let from = context_of c.args.from in
-    let groups = c.args.groups.now in
-    let leads = leads_by o asked groups c.requires.groups in
+    let leads = leads_by o asked c.args.groups.now c.requires.groups in
     IfOk-weaker c.of_expressions.result _ _
-    (λ e are. all_same (IsElementBy c.in_ok-satisfiable.satisfiable groups) (IsReachedFrom o asked from) e
+    (λ e are. all_same (IsElementBy c.in_ok-satisfiable.satisfiable c.args.groups.now) (IsReachedFrom o asked from) e
     (λ x. (
       λ h. (c.in_ok-found.ensures.reached x).0 (sym (c.in_ok-satisfiable.ensures x) ∙ h.0),
       λ h. (

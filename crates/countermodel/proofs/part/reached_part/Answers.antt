@@ -67,11 +67,10 @@ individual_elements-requires-clause-groups c =
 
 pub individual_elements-requires-clause-there : goal.individual_elements-requires-clause-there
 individual_elements-requires-clause-there c =
-    let i = c.args.indexed.now in
     let elements = c.in_ok-elements.elements in
     let is = c.ontology-ontology.ensures ∙ ap (λ (k : Closed). k.ontology) c.closed-closed.ensures in
     subst (λ (o : Ontology). HaveIndividuals o elements) (sym is)
-    (individuals_there i.ontology i.saturation.normal.asked c.requires.consistent (context_of c.leader_of-from.result) elements c.in_ok-elements.ensures)
+    (individuals_there c.args.indexed.now.ontology c.args.indexed.now.saturation.normal.asked c.requires.consistent (context_of c.leader_of-from.result) elements c.in_ok-elements.ensures)
 
 pub returns-clause-part : goal.returns-clause-part
 returns-clause-part c =
@@ -79,7 +78,6 @@ returns-clause-part c =
     let o = c.args.indexed.now.ontology in
     let asked = c.args.indexed.now.saturation.normal.asked in
     let elements = c.in_ok-elements.elements in
-    let rows = c.in_ok-classes.classes.items in
     let pairs = c.add_pair_rows.new.rows.items in
     let groups = subst (λ (k : Closed). AreGroupsOf k.ontology k.saturation.normal.asked c.groups_of-groups.result.now) c.closed-closed.ensures c.groups_of-groups.ensures in
     let is = c.leader_of-from.ensures o asked groups in
@@ -89,7 +87,7 @@ returns-clause-part c =
       reached = subst (λ (x : Context). AreAll (IsReachedFrom o asked x) elements) is c.in_ok-elements.ensures;
       own = c.in-Some.ensures ∙ ap Some is;
       domain = c.len.ensures;
-      classes = subst (λ (k : Closed). AreClassRows k.ontology k.saturation.normal.asked elements (map class_row_of rows)) c.closed-closed.ensures
+      classes = subst (λ (k : Closed). AreClassRows k.ontology k.saturation.normal.asked elements (map class_row_of c.in_ok-classes.classes.items)) c.closed-closed.ensures
           c.in_ok-classes.ensures;
       pairs = subst (λ (k : Closed). ArePairRows k.ontology k.saturation.normal.asked elements (map pair_row_of pairs)) c.closed-closed.ensures
           (all_taken (λ (rs : List PairRow). ArePairRows k.ontology k.saturation.normal.asked elements (map pair_row_of rs)) c.new-pairs.result.items pairs c.new-pairs.ensures.items c.in_ok-add_pair_rows.ensures);

@@ -33,9 +33,8 @@ add_ranges-requires-clause-there g c p h =
     let o = c.args.closed.now.ontology in
     let s = c.args.closed.now.saturation in
     let k = c.closure-closure.result.now in
-    let elements = c.args.elements.now in
-    let given = (given_in elements s.state.facts c.args.facts.now c.requires.facts k p).0 h in
-    let (x, y, _, _, edge) = edge_of_pair o s c.well_formed-2.ensures.saturated k c.closure-closure.ensures elements p given in
+    let given = (given_in c.args.elements.now s.state.facts c.args.facts.now c.requires.facts k p).0 h in
+    let (x, y, _, _, edge) = edge_of_pair o s c.well_formed-2.ensures.saturated k c.closure-closure.ensures c.args.elements.now p given in
     omega (arith, property_there o s.normal.asked c.well_formed-2.ensures.ontology x y p.property.0 edge, c.properties-properties.ensures.count, ap (λ (x : Ontology). length x.names.properties) c.ontology-ontology.ensures)
 
 -- rows of the pairs that the facts give are those of the listed interpretation
@@ -55,21 +54,17 @@ returns-in-None g c =
     let start = c.args.rows.now in
     let now = c.add_ranges.new.rows in
     let k = c.closure-closure.result.now in
-    let elements = c.args.elements.now in
-    let h = subst (HasRowsBelow adds (IsGiven k elements c.args.facts.now) start None now) c.in-None.is c.in_ok-add_ranges.ensures in
-    all_rows c.args.closed.now.ontology c.args.closed.now.saturation c.well_formed-2.ensures.saturated k c.closure-closure.ensures elements c.well_formed-2.ensures.ontology c.args.facts.now c.requires.facts h.pairs h.are
+    let h = subst (HasRowsBelow adds (IsGiven k c.args.elements.now c.args.facts.now) start None now) c.in-None.is c.in_ok-add_ranges.ensures in
+    all_rows c.args.closed.now.ontology c.args.closed.now.saturation c.well_formed-2.ensures.saturated k c.closure-closure.ensures c.args.elements.now c.well_formed-2.ensures.ontology c.args.facts.now c.requires.facts h.pairs h.are
     (adds start now) (without_last adds start h.pairs now h.grouped)
 
 pub returns : goal.returns
 returns g c =
     let adds = g.S.RowSink.adds in
     let start = c.args.rows.now in
-    let old = c.add_ranges.new.rows in
-    let new = c.add.new.self in
     let k = c.closure-closure.result.now in
-    let elements = c.args.elements.now in
-    let h = subst (HasRowsBelow adds (IsGiven k elements c.args.facts.now) start None old) c.in-Some.is c.in_ok-add_ranges.ensures in
+    let h = subst (HasRowsBelow adds (IsGiven k c.args.elements.now c.args.facts.now) start None c.add_ranges.new.rows) c.in-Some.is c.in_ok-add_ranges.ensures in
     on_ok_weaker c.add.result
-    (λ takes. all_rows c.args.closed.now.ontology c.args.closed.now.saturation c.well_formed-2.ensures.saturated k c.closure-closure.ensures elements c.well_formed-2.ensures.ontology c.args.facts.now c.requires.facts h.pairs h.are
-    (adds start new) (with_the_last adds start h.pairs old new c.in-Some.row takes h.grouped))
+    (λ takes. all_rows c.args.closed.now.ontology c.args.closed.now.saturation c.well_formed-2.ensures.saturated k c.closure-closure.ensures c.args.elements.now c.well_formed-2.ensures.ontology c.args.facts.now c.requires.facts h.pairs h.are
+    (adds start c.add.new.self) (with_the_last adds start h.pairs c.add_ranges.new.rows c.add.new.self c.in-Some.row takes h.grouped))
     c.add.ensures

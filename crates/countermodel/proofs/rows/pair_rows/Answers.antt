@@ -11,7 +11,5 @@ add_pair_rows-requires-clause-facts c = all_facts c.args.elements.now c.args.clo
 
 pub returns : goal.returns
 returns c =
-    let o = c.args.closed.now.ontology in
-    let asked = c.args.closed.now.saturation.normal.asked in
-    all_taken (λ (rows : List PairRow). ArePairRows o asked c.args.elements.now (map pair_row_of rows))
+    all_taken (λ (rows : List PairRow). ArePairRows c.args.closed.now.ontology c.args.closed.now.saturation.normal.asked c.args.elements.now (map pair_row_of rows))
     c.new-rows.result.items c.add_pair_rows.new.rows.items c.new-rows.ensures.items c.in_ok-add_pair_rows.ensures

@@ -34,6 +34,5 @@ loop-number-preserved c =
 
 pub returns-clause-started : goal.returns-clause-started
 returns-clause-started c =
-    let o = c.args.ontology.now in
-    let all : c.loop-number.number ≡ length o.names.individuals = omega (arith, c.loop-number-test.false, c.loop-number.auto.number-end, c.individuals-number-end.ensures.count) in
-    subst (λ (n : ℕ). (x : Context) → Contains c.loop-number.search.found.items x ↔ IsStart o c.args.from n x) all c.loop-number.invariant.1
+    let all : c.loop-number.number ≡ length c.args.ontology.now.names.individuals = omega (arith, c.loop-number-test.false, c.loop-number.auto.number-end, c.individuals-number-end.ensures.count) in
+    subst (λ (n : ℕ). (x : Context) → Contains c.loop-number.search.found.items x ↔ IsStart c.args.ontology.now c.args.from n x) all c.loop-number.invariant.1

@@ -20,13 +20,12 @@ loop-number-preserved c =
     let ontology = subst (λ (k : Closed). IsOntology k.ontology) c.closed-closed.ensures c.well_formed-2.ensures.ontology in
     let numbers = c.args.numbers.now in
     let k = c.loop-number.number-index in
-    let low = c.loop-number-test.true in
     let n : ℕ = get_or numbers k 0 in
     let fact = c.index-facts-number.result in
-    let there : n < length c.facts-facts.result.now = subst (λ (fs : List Fact). n < length fs) (sym is) (c.requires.there k 0 low) in
+    let there : n < length c.facts-facts.result.now = subst (λ (fs : List Fact). n < length fs) (sym is) (c.requires.there k 0 c.loop-number-test.true) in
     let read : slice_get c.facts-facts.result.now n ≡ Some fact = slice_get-get_or c.facts-facts.result.now n _ there ∙ ap Some (sym c.index-facts-number.is) in
     let at : slice_get facts n ≡ Some fact = subst (λ (fs : List Fact). slice_get fs n ≡ Some fact) is read in
-    let more = led_by_more o asked facts numbers k 0 low fact at in
+    let more = led_by_more o asked facts numbers k 0 c.loop-number-test.true fact at in
     let start = c.args.search.now.found.items in
     let now = c.loop-number.search.found.items in
     let was = c.loop-number.invariant in
@@ -36,9 +35,8 @@ loop-number-preserved c =
     elim c.match-target_of.branch [
       | in-Some+in_ok-add w ↦
           let target = w.in-Some.target in
-          let edge = w.in-Some.ensures in
-          let one = edge_to_one o asked fact target edge in
-          let within = satisfiable_within o asked ontology (context_of target) edge.3.0 in
+          let one = edge_to_one o asked fact target w.in-Some.ensures in
+          let within = satisfiable_within o asked ontology (context_of target) w.in-Some.ensures.3.0 in
           subst holds (sym w.search-is) (
             w.in_ok-add.ensures.search o within was.0,
             both_added before (λ x. x ≡ target) after start now w.add.new.self.found.items was.1 (w.in_ok-add.ensures.adds o was.0)

@@ -16,9 +16,8 @@ use Rattle.countermodel.proofs.search.reached_from.Goals as goal
 
 pub begun-requires-clause-groups : goal.begun-requires-clause-groups
 begun-requires-clause-groups c =
-    let i = c.args.indexed.now in
     let is = c.ontology-ontology.ensures ∙ ap (λ (k : Closed). k.ontology) c.closed-closed.ensures in
-    (i.saturation.normal.asked, subst (λ (o : Ontology). AreGroupsOf o i.saturation.normal.asked c.args.groups.now) (sym is) c.requires.groups)
+    (c.args.indexed.now.saturation.normal.asked, subst (λ (o : Ontology). AreGroupsOf o c.args.indexed.now.saturation.normal.asked c.args.groups.now) (sym is) c.requires.groups)
 
 pub begun-requires-clause-within : goal.begun-requires-clause-within
 begun-requires-clause-within c =
@@ -27,10 +26,9 @@ begun-requires-clause-within c =
 
 pub loop-next-init : goal.loop-next-init
 loop-next-init c =
-    let i = c.args.indexed.now in
     let is = c.ontology-ontology.ensures ∙ ap (λ (k : Closed). k.ontology) c.closed-closed.ensures in
     let search = c.in_ok-search.search in
-    begun i.ontology i.saturation.normal.asked c.args.from search.found.items search.seen (subst (λ (o : Ontology). IsSearch o search) is c.in_ok-search.ensures.search)
+    begun c.args.indexed.now.ontology c.args.indexed.now.saturation.normal.asked c.args.from search.found.items search.seen (subst (λ (o : Ontology). IsSearch o search) is c.in_ok-search.ensures.search)
     (subst (λ (o : Ontology). (x : Context) → Contains search.found.items x ↔ IsStart o c.args.from (length o.names.individuals) x) is c.in_ok-search.ensures.started)
 
 pub returns-then-next-len-clause-search : goal.returns-then-next-len-clause-search
@@ -38,10 +36,9 @@ returns-then-next-len-clause-search c = c.loop-next.invariant.marked
 
 pub returns-then-next-len-clause-reached : goal.returns-then-next-len-clause-reached
 returns-then-next-len-clause-reached c =
-    let i = c.args.indexed.now in
     let found = c.loop-next.search.found.items in
     let done : length found ≤ c.loop-next.next = omega (arith, c.if-next-len.true, c.len.ensures, c.loop-next.search.found.ok) in
-    seen_reached i.ontology i.saturation.normal.asked c.args.from c.loop-next.next found c.loop-next.search.seen c.loop-next.invariant done
+    seen_reached c.args.indexed.now.ontology c.args.indexed.now.saturation.normal.asked c.args.from c.loop-next.next found c.loop-next.search.seen c.loop-next.invariant done
 
 pub follow-requires-clause-there : goal.follow-requires-clause-there
 follow-requires-clause-there c = numbers_within (IsFrom c.index.result.now) c.args.indexed.now.saturation.state.facts c.edges_from-edges.result.now c.edges_from-edges.ensures
@@ -67,7 +64,6 @@ returns-clause-search c = c.loop-next.invariant.marked
 
 pub returns-clause-reached : goal.returns-clause-reached
 returns-clause-reached c =
-    let i = c.args.indexed.now in
     let found = c.loop-next.search.found.items in
     let done : length found ≤ c.loop-next.next = omega (arith, c.loop-next-test.false, c.loop-next.search.found.ok) in
-    seen_reached i.ontology i.saturation.normal.asked c.args.from c.loop-next.next found c.loop-next.search.seen c.loop-next.invariant done
+    seen_reached c.args.indexed.now.ontology c.args.indexed.now.saturation.normal.asked c.args.from c.loop-next.next found c.loop-next.search.seen c.loop-next.invariant done

@@ -18,12 +18,11 @@ returns-then-not-has_nothing c =
     let saturated = subst (λ (k : Closed). IsSaturated k.ontology k.saturation) c.closed-closed.ensures c.well_formed-2.ensures.saturated in
     let x = c.in-Edge.field-0 in
     let y = c.in-Edge.target in
-    let q = c.in-Property.field-0 in
     let is = sym c.get.ensures ∙ c.in-Edge.is ∙ ap (λ p. said.Edge x p y) c.in-Property.is in
     let leads = (leads_by o s.normal.asked c.args.groups.now c.requires.groups (context_of y)).0 (c.leads.ensures.0 c.if-leads.true) in
-    let has = target_has o s.normal.asked (prefixes_of s.normal) s.state.facts saturated.facts x y q (subst (Contains s.state.facts) is c.requires.there) leads
+    let has = target_has o s.normal.asked (prefixes_of s.normal) s.state.facts saturated.facts x y c.in-Property.field-0 (subst (Contains s.state.facts) is c.requires.there) leads
     (λ there. both_ways c.has_nothing.result c.if-not-has_nothing.true (c.has_nothing.ensures.1 there)) in
-    (x, q, is, has)
+    (x, c.in-Property.field-0, is, has)
 
 pub returns : goal.returns
 returns c = λ y edge.

@@ -34,8 +34,6 @@ individual_elements-requires-clause-there g c =
 
 pub returns : goal.returns
 returns g c =
-    let o = c.args.closed.now.ontology in
-    let asked = c.args.closed.now.saturation.normal.asked in
     let elements = c.in_ok-elements.elements in
     let with_pairs = c.add_pair_rows.new.rows in
     let numbers = c.in_ok-individuals.individuals.items in
@@ -46,7 +44,7 @@ returns g c =
     let bounded = subst (λ (x : Ontology). IsBounded x) is c.bounded.ensures in
     let ended = λ (ns : List ℕ) (ks : List Claim). with_pairs ++ flat_map individual_text (enumerate_from 0 ns) ++ flat_map claim_text (map claim_of ks) ++ codes "end\n" in
     IfOk-weaker c.end.result _ _
-    (λ v spelled. whole_text o asked c.well_formed-2.ensures.ontology bounded c.requires.consistent elements c.in_ok-elements.ensures (subst (λ n. n < 2 ^ 32) c.len.ensures c.len.type_inv) g.F.FormatType.format c.args.lines v.items
+    (λ v spelled. whole_text c.args.closed.now.ontology c.args.closed.now.saturation.normal.asked c.well_formed-2.ensures.ontology bounded c.requires.consistent elements c.in_ok-elements.ensures (subst (λ n. n < 2 ^ 32) c.len.ensures c.len.type_inv) g.F.FormatType.format c.args.lines v.items
     (record {
       begun = c.in_ok-text.text;
       prefix = c.in_ok-text.ensures ∙ ap (text_to_domain g.F.FormatType.format c.args.lines) c.len.ensures;

@@ -25,10 +25,8 @@ cut known stated copy l axioms more w whole lengths are same =
 
 pub truncate-requires : goal.truncate-requires
 truncate-requires c =
-    let known = c.args.known.now in
-    let stated = c.args.stated.now in
-    subst IsOntology (sym (cut known stated c.in_ok-about.about c.lengths-classes.result c.axioms.result.now c.requires c.well_formed-2.ensures c.well_formed-3.ensures c.lengths-classes.ensures c.axioms.ensures c.in_ok-about.ensures))
-    (about_whole known stated c.requires c.well_formed-2.ensures c.well_formed-3.ensures)
+    subst IsOntology (sym (cut c.args.known.now c.args.stated.now c.in_ok-about.about c.lengths-classes.result c.axioms.result.now c.requires c.well_formed-2.ensures c.well_formed-3.ensures c.lengths-classes.ensures c.axioms.ensures c.in_ok-about.ensures))
+    (about_whole c.args.known.now c.args.stated.now c.requires c.well_formed-2.ensures c.well_formed-3.ensures)
 
 pub returns : goal.returns
 returns c =

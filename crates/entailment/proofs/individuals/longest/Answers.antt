@@ -17,6 +17,4 @@ loop-name-preserved c =
     ]
 
 pub returns : goal.returns
-returns c =
-    let names = c.args.names.now in
-    subst (AreAtMost string_bytes c.loop-name.longest) (take_all c.loop-name.name-index names c.loop-name-test.false) c.loop-name.invariant
+returns c = subst (AreAtMost string_bytes c.loop-name.longest) (take_all c.loop-name.name-index c.args.names.now c.loop-name-test.false) c.loop-name.invariant

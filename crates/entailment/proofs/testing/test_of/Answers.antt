@@ -7,9 +7,8 @@ use Rattle.entailment.proofs.testing.test_of.Goals as goal
 
 pub assume-requires-clause-there : goal.assume-requires-clause-there
 assume-requires-clause-there c =
-    let o = c.args.ontology.now in
     let names = c.in_ok-add_individuals.ensures.added.0 in
-    let made : c.add_individuals.new.builder ≡ with_individuals o names =
+    let made : c.add_individuals.new.builder ≡ with_individuals c.args.ontology.now names =
     c.in_ok-add_individuals.ensures.added.2 ∙ ap (λ (p : Ontology). with_individuals p names) (c.from-builder.ensures ∙ c.in_ok-copy.ensures) in
-    let there = assumed_there o names c.args.claim c.requires (c.in_ok-add_individuals.ensures.added.1 ∙ c.individuals_for.ensures) in
+    let there = assumed_there c.args.ontology.now names c.args.claim c.requires (c.in_ok-add_individuals.ensures.added.1 ∙ c.individuals_for.ensures) in
     subst₂ (λ (p : Ontology) (n : ℕ). All (IsAxiomOf p) (assumed n c.args.claim)) (sym made) (sym c.first_added.ensures) there

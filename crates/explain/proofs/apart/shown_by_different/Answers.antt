@@ -1,15 +1,9 @@
-use Rattle.std.proofs.Common.{◌≡◌, ◌∷◌, [], ◌++◌, ◌<◌, ℕ, List, Option, None, Some, length, slice_get, sym, ap, ◌∙◌, subst, subst₂, arith}
-use Rattle.std.proofs.lemmas.Option.{same_Some}
+use Rattle.std.proofs.Common.{◌≡◌, ◌∷◌, [], ◌++◌, ◌<◌, ℕ, List, Option, length, slice_get, sym, ap, ◌∙◌, subst, subst₂, arith}
+use Rattle.std.proofs.lemmas.Option.{MatchOption-at_none, MatchOption-at_some, same_Some}
 use Rattle.std.specs.Global.{Vec}
-use Rattle.std.specs.Prelude.{MatchOption}
 use Rattle.axioms.specs.declared.ids.IndId.{IndId}
 use Rattle.certificate.specs.declared.line.Rule.TheVariants.{K20}
-use Rattle.facts.specs.Closure.{AreSame}
-use Rattle.facts.specs.declared.contexts.Context.TheVariants.{Individual}
-use Rattle.facts.specs.declared.contexts.Fact.{Fact}
-use Rattle.facts.specs.declared.contexts.Fact.TheVariants.{In}
 use Rattle.normal_forms.specs.Apart.{AreListedAt}
-use Rattle.normal_forms.specs.declared.forms.Class2.{Class2}
 use Rattle.normal_forms.specs.declared.forms.Form.{Form}
 use Rattle.normalise.specs.Listing.{Listing}
 use Rattle.normalise.specs.Problem.{prefixes_of}
@@ -24,25 +18,8 @@ use Rattle.explain.proofs.apart.shown_by_different.Goals as goal
 
 -- ---- what was found
 
--- the individual that the fact speaks of
-abbrev Speaks : Fact → Option IndId → Type 0
-Speaks f found = MatchOption found ((c : Class2) (i : IndId) → f ≡ In c (Individual i) → ⊥) (λ i. (c : Class2) × (f ≡ In c (Individual i)))
-
-speaks_of_none : (f : Fact) (found : Option IndId) → Speaks f found → found ≡ None → (c : Class2) (i : IndId) → f ≡ In c (Individual i) → ⊥
-speaks_of_none f found h none = subst (Speaks f) none h
-
-speaks_of : (f : Fact) (found : Option IndId) (i : IndId) → Speaks f found → found ≡ Some i → (c : Class2) × (f ≡ In c (Individual i))
-speaks_of f found i h is = subst (Speaks f) is h
-
--- a chain to one of these
-abbrev Found : (IndId → Type 0) → List Form → IndId → Option (Vec ℕ) → Type 0
-Found Is forms i found = MatchOption found ((j : IndId) → Is j → AreSame forms i j → ⊥) (λ v. (j : IndId) × Is j × IsChain forms i v.items j)
-
-none_found : (Is : IndId → Type 0) (forms : List Form) (found : Option (Vec ℕ)) (i : IndId) → Found Is forms i found → found ≡ None → (j : IndId) → Is j → AreSame forms i j → ⊥
-none_found Is forms found i h none = subst (Found Is forms i) none h
-
-chain_found : (Is : IndId → Type 0) (forms : List Form) (found : Option (Vec ℕ)) (chain : Vec ℕ) (numbers : List ℕ) (i : IndId) → Found Is forms i found → found ≡ Some chain → numbers ≡ chain.items → (j : IndId) × Is j × IsChain forms i numbers j
-chain_found Is forms found chain numbers i h is are = subst (λ (ns : List ℕ). (j : IndId) × Is j × IsChain forms i ns j) (sym are) (subst (Found Is forms i) is h)
+lent_chain : (Is : IndId → Type 0) (forms : List Form) (chain : Vec ℕ) (numbers : List ℕ) (i : IndId) → (j : IndId) × Is j × IsChain forms i chain.items j → numbers ≡ chain.items → (j : IndId) × Is j × IsChain forms i numbers j
+lent_chain Is forms chain numbers i found are = subst (λ (ns : List ℕ). (j : IndId) × Is j × IsChain forms i ns j) (sym are) found
 
 some_forms : (fs : List Form) (i j : IndId) (numbers : List ℕ) → (i ≡ j → ⊥) → IsChain fs i numbers j → 0 < length numbers
 some_forms fs i j [] other chain = absurd (other chain)
@@ -52,42 +29,39 @@ some_forms fs i j (n ∷ ns) other chain = omega arith
 
 pub unreachable-requires : goal.unreachable-requires
 unreachable-requires g c =
-    let s = c.args.basis.now.closed.now.saturation in
     let (r, born, twelve, place) = c.requires.born in
-    speaks c.args.basis.now.closed.now.ontology s c.well_formed-2.ensures.saturated c.args.fact.0 r born c.fact_of-fact.result c.fact_of-fact.ensures c.args.list place twelve
-    (speaks_of_none c.fact_of-fact.result c.individual_of.result c.individual_of.ensures c.in_default.is)
+    speaks c.args.basis.now.closed.now.ontology c.args.basis.now.closed.now.saturation c.well_formed-2.ensures.saturated c.args.fact.0 r born c.fact_of-fact.result c.fact_of-fact.ensures c.args.list place twelve
+    (MatchOption-at_none _ _ c.in_default.is c.individual_of.ensures)
 
 pub chain_to_another-requires : goal.chain_to_another-requires
 chain_to_another-requires g c =
     let o = c.args.basis.now.closed.now.ontology in
     let s = c.args.basis.now.closed.now.saturation in
     let (r, born, twelve, place) = c.requires.born in
-    let (class, is) = speaks_of c.fact_of-fact.result c.individual_of.result c.in-Some.individual c.individual_of.ensures c.in-Some.is in
+    let (class, is) = MatchOption-at_some _ _ _ c.in-Some.is c.individual_of.ensures in
     let (other, listed, one) = another o s c.well_formed-2.ensures.saturated c.args.fact.0 r born c.fact_of-fact.result c.fact_of-fact.ensures c.args.list place twelve class c.in-Some.individual is in
     record { there = first_within o s c.well_formed-2.ensures.ontology c.well_formed-2.ensures.saturated c.args.list c.in-Some.individual other listed }
 
 pub unreachable-requires-in_default-found : goal.unreachable-requires-in_default-found
 unreachable-requires-in_default-found g c =
-    let o = c.args.basis.now.closed.now.ontology in
     let s = c.args.basis.now.closed.now.saturation in
     let i = c.in-Some.individual in
     let (r, born, twelve, place) = c.requires.born in
-    let (class, is) = speaks_of c.fact_of-fact.result c.individual_of.result i c.individual_of.ensures c.in-Some.is in
-    let (other, listed, one) = another o s c.well_formed-2.ensures.saturated c.args.fact.0 r born c.fact_of-fact.result c.fact_of-fact.ensures c.args.list place twelve class i is in
-    none_found (AreListedAt s.normal.apart.individuals c.args.list i) s.state.problem.forms c.in_ok-found.found i c.in_ok-found.ensures c.in_default-found.is other listed one
+    let (class, is) = MatchOption-at_some _ _ _ c.in-Some.is c.individual_of.ensures in
+    let (other, listed, one) = another c.args.basis.now.closed.now.ontology s c.well_formed-2.ensures.saturated c.args.fact.0 r born c.fact_of-fact.result c.fact_of-fact.ensures c.args.list place twelve class i is in
+    MatchOption-at_none _ _ c.in_default-found.is c.in_ok-found.ensures other listed one
 
 pub same_along-requires-clause-some : goal.same_along-requires-clause-some
 same_along-requires-clause-some g c =
     let s = c.args.basis.now.closed.now.saturation in
     let i = c.in-Some.individual in
-    let (other, listed, chain) = chain_found (AreListedAt s.normal.apart.individuals c.args.list i) s.state.problem.forms c.in_ok-found.found c.in-Some-found.chain c.deref.result.now i c.in_ok-found.ensures c.in-Some-found.is c.deref.ensures.value in
+    let (other, listed, chain) = lent_chain (AreListedAt s.normal.apart.individuals c.args.list i) s.state.problem.forms c.in-Some-found.chain c.deref.result.now i (MatchOption-at_some _ _ _ c.in-Some-found.is c.in_ok-found.ensures) c.deref.ensures.value in
     some_forms s.state.problem.forms i other c.deref.result.now (two c.args.basis.now.closed.now.ontology s c.well_formed-2.ensures.ontology c.well_formed-2.ensures.saturated c.args.list i other listed) chain
 
 pub same_along-requires-clause-chain : goal.same_along-requires-clause-chain
 same_along-requires-clause-chain g c =
     let s = c.args.basis.now.closed.now.saturation in
-    let i = c.in-Some.individual in
-    let (other, listed, chain) = chain_found (AreListedAt s.normal.apart.individuals c.args.list i) s.state.problem.forms c.in_ok-found.found c.in-Some-found.chain c.deref.result.now i c.in_ok-found.ensures c.in-Some-found.is c.deref.ensures.value in
+    let (other, listed, chain) = lent_chain (AreListedAt s.normal.apart.individuals c.args.list c.in-Some.individual) s.state.problem.forms c.in-Some-found.chain c.deref.result.now c.in-Some.individual (MatchOption-at_some _ _ _ c.in-Some-found.is c.in_ok-found.ensures) c.deref.ensures.value in
     (other, chain)
 
 -- the line leads to the fact
@@ -98,8 +72,8 @@ leading g c =
     let f = c.fact_of-fact.result in
     let i = c.in-Some.individual in
     let (r, born, twelve, place) = c.requires.born in
-    let (class, is) = speaks_of f c.individual_of.result i c.individual_of.ensures c.in-Some.is in
-    let (other, listed, chain) = chain_found (AreListedAt s.normal.apart.individuals c.args.list i) s.state.problem.forms c.in_ok-found.found c.in-Some-found.chain c.deref.result.now i c.in_ok-found.ensures c.in-Some-found.is c.deref.ensures.value in
+    let (class, is) = MatchOption-at_some _ _ _ c.in-Some.is c.individual_of.ensures in
+    let (other, listed, chain) = lent_chain (AreListedAt s.normal.apart.individuals c.args.list i) s.state.problem.forms c.in-Some-found.chain c.deref.result.now i (MatchOption-at_some _ _ _ c.in-Some-found.is c.in_ok-found.ensures) c.deref.ensures.value in
     let says = c.in_ok-number.ensures.says other chain in
     let here = in_nothing o s c.well_formed-2.ensures.saturated c.args.fact.0 r born f c.fact_of-fact.ensures c.args.list place twelve class i is in
     let to = different_leads o s c.well_formed-2.ensures.ontology c.well_formed-2.ensures.saturated c.args.list i other listed c.args.fact.0 f c.fact_of-fact.ensures here c.same_along.new.derivation c.in_ok-number.number says in

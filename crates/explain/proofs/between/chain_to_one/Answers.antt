@@ -28,11 +28,10 @@ walk-requires-clause-there c =
 
 pub returns : goal.returns
 returns c =
-    let list = c.deref-2.result.now in
     let last = c.in-Some.last in
-    let found = found_in (LeadsOver c.args.problem.now.forms) c.args.individuals c.in_ok-links.links c.in_ok-links.ensures c.args.first.0 c.run.new.self.found.items list c.in_ok-run.ensures.found c.deref-2.ensures.value in
+    let found = found_in (LeadsOver c.args.problem.now.forms) c.args.individuals c.in_ok-links.links c.in_ok-links.ensures c.args.first.0 c.run.new.self.found.items c.deref-2.result.now c.in_ok-run.ensures.found c.deref-2.ensures.value in
     let stands = subst (λ (l : List Reached). StandsAt l last.0 c.in-Some-place_of.place) (c.deref.ensures.value ∙ sym c.deref-2.ensures.value) c.in-Some-place_of.ensures in (
       last,
       c.in-Some.ensures.0,
-      chain_along c.args.problem.now.forms c.args.first _ last (leads_along (LeadsOver c.args.problem.now.forms) c.args.first.0 last.0 list c.in-Some-place_of.place _ found.ways stands c.in_ok-walk.ensures),
+      chain_along c.args.problem.now.forms c.args.first _ last (leads_along (LeadsOver c.args.problem.now.forms) c.args.first.0 last.0 c.deref-2.result.now c.in-Some-place_of.place _ found.ways stands c.in_ok-walk.ensures),
     )

@@ -17,11 +17,10 @@ use Rattle.explain.proofs.by_form.shown_by_facts.Goals as goal
 
 pub premises-requires-clause-there : goal.premises-requires-clause-there
 premises-requires-clause-there g c m there =
-    let o = c.args.basis.now.closed.now.ontology in
     let s = c.args.basis.now.closed.now.saturation in
     let r = reason c.args.next.now.birth.now in
     let (f, at) = slice_get_there s.state.facts c.args.next.now.fact.0 c.requires.next.there in
-    (led_to o s c.well_formed-2.ensures.ontology c.well_formed-2.ensures.saturated c.args.next.now.fact.0 r c.requires.next.birth f at c.args.form c.requires.form c.requires.of_form c.args.step.now c.requires.step c.requires.facts).there m
+    (led_to c.args.basis.now.closed.now.ontology s c.well_formed-2.ensures.ontology c.well_formed-2.ensures.saturated c.args.next.now.fact.0 r c.requires.next.birth f at c.args.form c.requires.form c.requires.of_form c.args.step.now c.requires.step c.requires.facts).there m
     (subst (λ ns. Contains ns m) (c.rests_on-older.ensures ∙ ap (λ (v : Listing). rests_on v.entries r) c.normal-normal.ensures) there)
 
 pub premises-requires-clause-shown : goal.premises-requires-clause-shown
@@ -31,11 +30,10 @@ premises-requires-clause-shown g c m there f at =
 
 pub premises-requires-clause-below : goal.premises-requires-clause-below
 premises-requires-clause-below g c fs at_fs =
-    let o = c.args.basis.now.closed.now.ontology in
     let s = c.args.basis.now.closed.now.saturation in
     let r = reason c.args.next.now.birth.now in
     let (f, at) = slice_get_there s.state.facts c.args.next.now.fact.0 c.requires.next.there in
-    (led_to o s c.well_formed-2.ensures.ontology c.well_formed-2.ensures.saturated c.args.next.now.fact.0 r c.requires.next.birth f at c.args.form c.requires.form c.requires.of_form c.args.step.now c.requires.step c.requires.facts).lift fs
+    (led_to c.args.basis.now.closed.now.ontology s c.well_formed-2.ensures.ontology c.well_formed-2.ensures.saturated c.args.next.now.fact.0 r c.requires.next.birth f at c.args.form c.requires.form c.requires.of_form c.args.step.now c.requires.step c.requires.facts).lift fs
     (ap (map (slice_get s.state.facts)) (sym (c.rests_on-older.ensures ∙ ap (λ (v : Listing). rests_on v.entries r) c.normal-normal.ensures)) ∙ at_fs)
 
 -- the line that the rule makes follows

@@ -25,16 +25,14 @@ fact_of-given-requires g c =
 
 pub handed_on-requires-clause-hands : goal.handed_on-requires-clause-hands
 handed_on-requires-clause-hands g c =
-    let s = c.args.basis.now.closed.now.saturation in
     let (i, j, at) = c.requires.same in
-    hands c.args.basis.now.closed.now.ontology s c.well_formed-2.ensures.saturated c.args.next.now.fact.0 (reason c.args.next.now.birth.now) c.requires.next.birth c.fact_of-fact.result c.fact_of-fact.ensures c.args.form c.requires.form c.requires.of_form i j at c.older.result c.older.ensures c.in-One.older c.in-One.is
+    hands c.args.basis.now.closed.now.ontology c.args.basis.now.closed.now.saturation c.well_formed-2.ensures.saturated c.args.next.now.fact.0 (reason c.args.next.now.birth.now) c.requires.next.birth c.fact_of-fact.result c.fact_of-fact.ensures c.args.form c.requires.form c.requires.of_form i j at c.older.result c.older.ensures c.in-One.older c.in-One.is
     c.fact_of-given.result c.fact_of-given.ensures
 
 pub handed_on-requires-clause-two : goal.handed_on-requires-clause-two
 handed_on-requires-clause-two g c =
-    let s = c.args.basis.now.closed.now.saturation in
     let (i, j, at) = c.requires.same in
-    two_facts c.args.basis.now.closed.now.ontology s c.well_formed-2.ensures.saturated c.args.next.now.fact.0 (reason c.args.next.now.birth.now) c.requires.next.birth c.fact_of-fact.result c.fact_of-fact.ensures c.args.form c.requires.form c.requires.of_form i j at c.older.result c.older.ensures c.in-One.older c.in-One.is
+    two_facts c.args.basis.now.closed.now.ontology c.args.basis.now.closed.now.saturation c.well_formed-2.ensures.saturated c.args.next.now.fact.0 (reason c.args.next.now.birth.now) c.requires.next.birth c.fact_of-fact.result c.fact_of-fact.ensures c.args.form c.requires.form c.requires.of_form i j at c.older.result c.older.ensures c.in-One.older c.in-One.is
     c.fact_of-given.result c.fact_of-given.ensures
 
 pub handed_on-requires-clause-shown : goal.handed_on-requires-clause-shown

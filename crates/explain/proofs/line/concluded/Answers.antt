@@ -16,14 +16,12 @@ returns-clause-derivation g c o b derivation leads =
 
 pub returns-clause-shown : goal.returns-clause-shown
 returns-clause-shown g c o b leads =
-    let number = c.in_ok-number.number in
     showing_line c.args.fact (conclusion_of c.in-Some.conclusion) (sym c.in-Some.ensures)
-    (added_line_at c.args.derivation.now _ _ _ number c.in_ok-number.ensures.added c.in_ok-number.ensures.number
-    (c.in_ok-push.ensures.ok ∙ ap (λ ns. ns ++ number ∷ []) c.clear.ensures.items))
+    (added_line_at c.args.derivation.now _ _ _ c.in_ok-number.number c.in_ok-number.ensures.added c.in_ok-number.ensures.number
+    (c.in_ok-push.ensures.ok ∙ ap (λ ns. ns ++ c.in_ok-number.number ∷ []) c.clear.ensures.items))
 
 pub returns-clause-used : goal.returns-clause-used
 returns-clause-used g c =
-    let number = c.in_ok-number.number in
     subst (λ ns. Uses c.args.derivation.now c.add.new.self (IsAmong ns) c.push.new.self.items) c.as_slice.ensures
-    (used_by_line c.args.derivation.now c.add.new.self _ c.push.new.self.items number c.in_ok-number.ensures.added c.in_ok-number.ensures.number
-    (c.in_ok-push.ensures.ok ∙ ap (λ ns. ns ++ number ∷ []) c.clear.ensures.items))
+    (used_by_line c.args.derivation.now c.add.new.self _ c.push.new.self.items c.in_ok-number.number c.in_ok-number.ensures.added c.in_ok-number.ensures.number
+    (c.in_ok-push.ensures.ok ∙ ap (λ ns. ns ++ c.in_ok-number.number ∷ []) c.clear.ensures.items))

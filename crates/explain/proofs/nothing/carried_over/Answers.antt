@@ -20,5 +20,4 @@ returns-clause-shown g c x l =
 
 pub returns-clause-used : goal.returns-clause-used
 returns-clause-used g c =
-    let number = c.in_ok-number.number in
-    used_by_line c.args.derivation.now c.add.new.self _ (number ∷ []) number c.in_ok-number.ensures.added c.in_ok-number.ensures.number refl
+    used_by_line c.args.derivation.now c.add.new.self _ (c.in_ok-number.number ∷ []) c.in_ok-number.number c.in_ok-number.ensures.added c.in_ok-number.ensures.number refl

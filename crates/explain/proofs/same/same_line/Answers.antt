@@ -14,8 +14,7 @@ use Rattle.explain.proofs.same.same_line.Goals as goal
 
 pub unreachable-requires : goal.unreachable-requires
 unreachable-requires g c =
-    let s = c.args.basis.now.closed.now.saturation in
-    let (number, by) = linked_by_axiom c.args.basis.now.closed.now.ontology s c.well_formed-2.ensures.saturated c.args.form c.args.first c.args.second c.requires.linked in
+    let (number, by) = linked_by_axiom c.args.basis.now.closed.now.ontology c.args.basis.now.closed.now.saturation c.well_formed-2.ensures.saturated c.args.form c.args.first c.args.second c.requires.linked in
     let found = c.axiom_of.ensures number (ap (λ (v : Listing). option_map origin_in (slice_get v.entries c.args.form)) c.normal.ensures ∙ by) in
     c.in_default-axiom_of.not-Some number found
 

@@ -70,8 +70,7 @@ leading g c =
     let o = c.args.basis.now.closed.now.ontology in
     let s = c.args.basis.now.closed.now.saturation in
     let f = c.fact_of-fact.result in
-    let at = c.fact_of-fact.ensures in
-    let to = context_leads o s c.well_formed-2.ensures.saturated c.args.next.now.fact.0 (reason c.args.next.now.birth.now) c.requires.next.birth f at c.well_formed-2.ensures.ontology c.requires.form (not_carried g c) c.args.derivation.now in
+    let to = context_leads o s c.well_formed-2.ensures.saturated c.args.next.now.fact.0 (reason c.args.next.now.birth.now) c.requires.next.birth f c.fact_of-fact.ensures c.well_formed-2.ensures.ontology c.requires.form (not_carried g c) c.args.derivation.now in
     subst (λ (ns : List ℕ). LeadTo o (prefixes_of s.normal) c.args.derivation.now c.rule.result None ns f) (sym c.new-none.ensures.items)
     (subst (λ (rule : Rule). LeadTo o (prefixes_of s.normal) c.args.derivation.now rule None [] f) (sym c.rule.ensures) to)
 
@@ -80,11 +79,10 @@ returns-in_ok-numbers-in_default g c =
     let o = c.args.basis.now.closed.now.ontology in
     let s = c.args.basis.now.closed.now.saturation in
     let r = reason c.args.next.now.birth.now in
-    let at_fact = c.fact_of-fact.ensures in
-    let rests = rests_on_none o s c.well_formed-2.ensures.saturated c.args.next.now.fact.0 r c.requires.next.birth _ at_fact c.requires.form (not_carried g c) in record {
+    let rests = rests_on_none o s c.well_formed-2.ensures.saturated c.args.next.now.fact.0 r c.requires.next.birth _ c.fact_of-fact.ensures c.requires.form (not_carried g c) in record {
       derivation = c.in_ok-numbers-in_default.ensures.derivation o (prefixes_of s.normal) c.requires.next.derivation (leading g c);
       longer = c.in_ok-numbers-in_default.ensures.longer;
-      shown = λ f at. subst (AreShowing (prefixes_of s.normal) c.concluded.new.derivation c.in_ok-numbers-in_default.numbers.items) (same_Some c.fact_of-fact.result f (sym at_fact ∙ at))
+      shown = λ f at. subst (AreShowing (prefixes_of s.normal) c.concluded.new.derivation c.in_ok-numbers-in_default.numbers.items) (same_Some c.fact_of-fact.result f (sym c.fact_of-fact.ensures ∙ at))
           (c.in_ok-numbers-in_default.ensures.shown o (prefixes_of s.normal) (leading g c));
       used = used_of_none s c.args.next.now.shown.now c.args.next.now.fact.0 r c.requires.next.birth rests c.args.derivation.now c.concluded.new.derivation c.new-none.result.items
           c.in_ok-numbers-in_default.numbers.items c.in_ok-numbers-in_default.ensures.used;

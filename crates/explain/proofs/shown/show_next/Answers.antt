@@ -21,16 +21,14 @@ show-requires-clause-older g c =
 
 pub returns-clause-showing : goal.returns-clause-showing
 returns-clause-showing g c =
-    let o = c.args.basis.now.closed.now.ontology in
     let s = c.args.basis.now.closed.now.saturation in
     let marks = c.args.marks.now in
-    let shown = c.args.shown.now in
     let next = c.requires.next in
     let marked = is_marked marks c.args.fact.0 (sym c.contains.ensures ∙ c.if-not-contains.false) in
     let fact = slice_get_there s.state.facts c.args.fact.0 (omega (arith, c.requires.there, c.requires.ready.within)) in
     let numbers = c.in_ok-numbers.numbers.items in
-    let more = showing_more o s marks c.args.derivation.now c.show.new.derivation shown numbers fact.0
+    let more = showing_more c.args.basis.now.closed.now.ontology s marks c.args.derivation.now c.show.new.derivation c.args.shown.now numbers fact.0
     (subst (λ k. slice_get s.state.facts k ≡ Some fact.0) next fact.1) (subst (IsMarked marks) next marked) c.well_formed-2.ensures.saturated c.requires.ready.within
     c.requires.showing c.in_ok-numbers.ensures.shown.derivation c.in_ok-numbers.ensures.shown.longer (c.in_ok-numbers.ensures.shown.shown fact.0 fact.1)
-    (subst (λ k. EachIsUsed s shown k c.args.derivation.now c.show.new.derivation numbers) next c.in_ok-numbers.ensures.shown.used) in
+    (subst (λ k. EachIsUsed s c.args.shown.now k c.args.derivation.now c.show.new.derivation numbers) next c.in_ok-numbers.ensures.shown.used) in
     rw (c.in_ok-push_list-2.ensures.ok, c.as_slice.ensures) more

@@ -8,9 +8,8 @@ use Rattle.explain.proofs.told.links_from.Goals as goal
 pub tell_over-requires : goal.tell_over-requires
 tell_over-requires c =
     let items = c.deref-form-items.result.now in
-    let place = c.loop-form.form-index in
-    let number = get_or items place 0 in
-    (c.in_ok-numbers.ensures number).0 (subst (λ (l : List ℕ). Contains l number) c.deref-form-items.ensures.value (Contains-get_or items place 0 c.loop-form-test.true))
+    let number = get_or items c.loop-form.form-index 0 in
+    (c.in_ok-numbers.ensures number).0 (subst (λ (l : List ℕ). Contains l number) c.deref-form-items.ensures.value (Contains-get_or items c.loop-form.form-index 0 c.loop-form-test.true))
 
 pub loop-form-preserved : goal.loop-form-preserved
 loop-form-preserved c =
@@ -21,7 +20,5 @@ loop-form-preserved c =
 
 pub returns : goal.returns
 returns c =
-    let forms = c.args.problem.now.forms in
-    let items = c.deref-form-items.result.now in
-    all_of (LeadsOver forms) c.args.individual.0 items c.loop-form.form-index c.loop-form.links.items
-    (λ n s leads. subst (λ (l : List ℕ). Contains l n) (sym c.deref-form-items.ensures.value) ((c.in_ok-numbers.ensures n).1 (over_listed forms c.args.individual n s leads))) (omega (arith, c.loop-form-test.false)) c.loop-form.invariant
+    all_of (LeadsOver c.args.problem.now.forms) c.args.individual.0 c.deref-form-items.result.now c.loop-form.form-index c.loop-form.links.items
+    (λ n s leads. subst (λ (l : List ℕ). Contains l n) (sym c.deref-form-items.ensures.value) ((c.in_ok-numbers.ensures n).1 (over_listed c.args.problem.now.forms c.args.individual n s leads))) (omega (arith, c.loop-form-test.false)) c.loop-form.invariant

@@ -19,7 +19,5 @@ loop-form-preserved c =
 
 pub returns : goal.returns
 returns c =
-    let forms = c.args.problem.now.forms in
-    let items = c.plain_from-form-items.result.now in
-    all_of (LeadsUp forms) c.args.property.0 items c.loop-form.form-index c.loop-form.told.items (λ n s leads. (c.plain_from-form-items.ensures n).1 (leads_listed forms c.args.property n s leads))
+    all_of (LeadsUp c.args.problem.now.forms) c.args.property.0 c.plain_from-form-items.result.now c.loop-form.form-index c.loop-form.told.items (λ n s leads. (c.plain_from-form-items.ensures n).1 (leads_listed c.args.problem.now.forms c.args.property n s leads))
     (omega (arith, c.loop-form-test.false)) c.loop-form.invariant

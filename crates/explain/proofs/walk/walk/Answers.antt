@@ -17,7 +17,6 @@ loop-at-preserved c =
 pub returns : goal.returns
 returns c =
     let reached = c.args.reached.now in
-    let at = c.loop-at.at in
-    let here = slice_get-get_or reached at _ c.loop-at.invariant.there in
+    let here = slice_get-get_or reached c.loop-at.at _ c.loop-at.invariant.there in
     subst (IsTrace reached c.args.place) (sym c.reverse.ensures.items)
-    (traces_all reached c.args.place at c.loop-at.numbers.items _ here (no_way _ c.in_default.not-Some) c.loop-at.invariant.on)
+    (traces_all reached c.args.place c.loop-at.at c.loop-at.numbers.items _ here (no_way _ c.in_default.not-Some) c.loop-at.invariant.on)

@@ -5,11 +5,10 @@ use Rattle.generated_part.proofs.by_element.pairs_at.Goals as goal
 
 pub loop-number-preserved : goal.loop-number-preserved
 loop-number-preserved c =
-    let n = c.loop-number.number in
     let old = c.loop-number.found.items in
     let now = c.push_targets.new.found.items in
-    one_property c.args.interpretation.now n c.args.element old now c.loop-number.invariant
-    (subst (λ (ts : List ℕ). AddsTargets old (prop_id n) ts now) c.targets_of.ensures c.in_ok-push_targets.ensures)
+    one_property c.args.interpretation.now c.loop-number.number c.args.element old now c.loop-number.invariant
+    (subst (λ (ts : List ℕ). AddsTargets old (prop_id c.loop-number.number) ts now) c.targets_of.ensures c.in_ok-push_targets.ensures)
 
 pub returns : goal.returns
 returns c =

@@ -5,11 +5,9 @@ use Rattle.generated_part.proofs.by_element.push_targets.Goals as goal
 
 pub loop-target-preserved : goal.loop-target-preserved
 loop-target-preserved c =
-    let old = c.args.found.now.items in
-    let ts = c.args.targets.now in
     let k = c.loop-target.target-index in
-    subst (AddsTargets old c.args.property (take (k + 1) ts)) (sym c.in_ok-push.ensures.items)
-    (one_target old c.args.property ts k 0 c.loop-target.found.items c.loop-target-test.true c.loop-target.invariant)
+    subst (AddsTargets c.args.found.now.items c.args.property (take (k + 1) c.args.targets.now)) (sym c.in_ok-push.ensures.items)
+    (one_target c.args.found.now.items c.args.property c.args.targets.now k 0 c.loop-target.found.items c.loop-target-test.true c.loop-target.invariant)
 
 pub returns : goal.returns
 returns c = all_targets c.args.found.now.items c.args.property c.args.targets.now c.loop-target.target-index c.loop-target.found.items c.loop-target-test.false c.loop-target.invariant

@@ -31,14 +31,13 @@ part_of-requires-clause-individuals c = λ k d h.
 pub returns-clause-generated : goal.returns-clause-generated
 returns-clause-generated c = λ i v by.
     let (j, w, also, there) = c.requires.rows in
-    let rows = c.args.rows.now in
     let marks = c.in_ok-marks.marks in
     let chosen = c.in_ok-chosen.chosen in
     let from = c.args.from in
     let low : from < i.size = omega (arith, there, also.pairs_each, by.pairs_each) in
     let placed : from < length chosen.places.items = omega (arith, low, by.pairs_each, c.in_ok-marks.ensures.wide, c.in_ok-chosen.ensures.long) in
-    is_generated c.args.ontology.now c.well_formed-2.ensures i v rows by from low marks (length marks) (c.in_ok-marks.ensures.wide ∙ by.pairs_each)
-    (λ x. subst (λ (xs : List ℕ). (has marks x ≡ true) ↔ IsFound (from ∷ xs) rows.pairs x) c.deref.ensures.value (c.in_ok-marks.ensures.exact x))
+    is_generated c.args.ontology.now c.well_formed-2.ensures i v c.args.rows.now by from low marks (length marks) (c.in_ok-marks.ensures.wide ∙ by.pairs_each)
+    (λ x. subst (λ (xs : List ℕ). (has marks x ≡ true) ↔ IsFound (from ∷ xs) c.args.rows.now.pairs x) c.deref.ensures.value (c.in_ok-marks.ensures.exact x))
     chosen.elements.items chosen.places.items c.in_ok-chosen.ensures
     c.in_ok-part.part c.well_formed-3.ensures c.in_ok-part.ensures.part
     c.index.result.now (slice_get-get_or chosen.places.items from c.index.result.now placed ∙ ap Some (sym c.index.ensures))

@@ -11,8 +11,7 @@ loop-number-preserved c =
     let individuals = c.args.individuals.now in
     let k = c.loop-number.number in
     let x = get_or individuals k 0 in
-    let result = c.put_individual.result in
-    let well = went_well result c.is_err.result c.is_err.ensures.negation c.if-is_err.false c.put_individual.ensures.after in
+    let well = went_well c.put_individual.result c.is_err.result c.is_err.ensures.negation c.if-is_err.false c.put_individual.ensures.after in
     let taken = c.put_individual.ensures.taken.0 well.0 in
     individual_step (map (slice_index places) individuals) k (slice_index places x) (slice_get_map (slice_index places) individuals k x (slice_get-get_or individuals k 0 c.loop-number-test.true))
     c.args.part.now c.loop-number.part c.put_individual.new.self taken.0 well.1 c.loop-number.invariant

@@ -8,9 +8,8 @@ use Rattle.generated_part.proofs.part.put_pairs.Goals as goal
 
 pub put_pairs_of-requires : goal.put_pairs_of-requires
 put_pairs_of-requires c = λ k d l.
-    let items = c.at.result.now in
-    let pair = get_or items k d in
-    let there = subst (λ (ps : List (PropId × ℕ)). Contains ps pair) c.at.ensures (Contains-get_or items k d l) in
+    let pair = get_or c.at.result.now k d in
+    let there = subst (λ (ps : List (PropId × ℕ)). Contains ps pair) c.at.ensures (Contains-get_or c.at.result.now k d l) in
     omega (arith, c.requires _ pair.1 pair.0 there, ap length c.deref.ensures.value)
 
 pub loop-place-preserved : goal.loop-place-preserved

@@ -21,8 +21,7 @@ returns-in-Err-reported-clause-read g c =
 
 pub returns-clause-answered : goal.returns-clause-answered
 returns-clause-answered g c =
-    let limits = c.args.limits.now in
     let restriction = c.in-Ok-reported.restriction in
     let Begun : List ℕ → Type 0 = λ text. AppendsPrefix (g.S.Sink.taken c.args.output.now) (g.S.Sink.taken c.write_all.new.sink) text in
-    let is = restricted_as c.args.lines limits.version limits.max_bytes (g.D.Source.left c.args.document.now) c.in-Ok.bytes.items c.deref.result.now restriction c.in-Ok.ensures.known c.in-Ok.ensures.within c.deref.ensures.value c.in-Ok-reported.ensures.restricted in
+    let is = restricted_as c.args.lines c.args.limits.now.version c.args.limits.now.max_bytes (g.D.Source.left c.args.document.now) c.in-Ok.bytes.items c.deref.result.now restriction c.in-Ok.ensures.known c.in-Ok.ensures.within c.deref.ensures.value c.in-Ok-reported.ensures.restricted in
     (restriction, is, (subst Begun c.deref-2.ensures.value c.in-Err-write_all.ensures.begun, c.in-Err-write_all.ensures.failed))

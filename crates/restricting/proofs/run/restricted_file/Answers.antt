@@ -24,10 +24,8 @@ returns g c =
     let source = g.F.In.Source in
     let sink = g.F.Out.Sink in
     let call = c.restrict_document-answer in
-    let document = c.args.run.now.reading.path.now in
     let output = c.args.run.now.output.now in
     let first = c.args.files.now in
-    let made = c.writer.new.self in
     let last = c.close.new.self in
     let known = files.is_known first in
     let s : Store = store files first last in
@@ -37,8 +35,8 @@ returns g c =
       all_known = λ e. g.met.F.Files.all_known e first;
       unfailing = λ e. g.met.F.Files.unfailing e call.new.document;
     } in
-    restriction_made c.args.run.now.lines c.args.run.now.reading.limits document output s (files.content first) (files.content last) (source_state source c.in-Ok.document) (source_state source call.new.document) old new call.result
+    restriction_made c.args.run.now.lines c.args.run.now.reading.limits c.args.run.now.reading.path.now output s (files.content first) (files.content last) (source_state source c.in-Ok.document) (source_state source call.new.document) old new call.result
     c.in-Ok.ensures of
-    (written s (files.content first) (files.content made) (files.content last) (files.failed_writes made) (sink.path call.new.output) output old new
+    (written s (files.content first) (files.content c.writer.new.self) (files.content last) (files.failed_writes c.writer.new.self) (sink.path call.new.output) output old new
     c.in-Ok-writer.ensures.taken c.in-Ok-writer.ensures.failures (call.ensures.path ∙ c.in-Ok-writer.ensures.path) c.writer.ensures.kept c.writer.ensures.unfailed c.close.ensures.closed c.close.ensures.unfailed c.close.ensures.failed)
     call.ensures.answered call.ensures.read call.ensures.beyond

@@ -7,8 +7,7 @@ use Rattle.countermodel.proofs.elements.Elements.among.Goals as goal
 
 pub list_individuals-requires-clause-contexts : goal.list_individuals-requires-clause-contexts
 list_individuals-requires-clause-contexts c =
-    let s = c.args.satisfiable.now in
-    expressions_done (IsAdmitted s) (IsElementBy s c.args.groups.now) c.expression_count-many.result (contexts_of c.list_expressions.new.contexts.items) c.in_ok-list_expressions.ensures.listed
+    expressions_done (IsAdmitted c.args.satisfiable.now) (IsElementBy c.args.satisfiable.now c.args.groups.now) c.expression_count-many.result (contexts_of c.list_expressions.new.contexts.items) c.in_ok-list_expressions.ensures.listed
     (λ e. (λ admitted. (admitted, tt), λ is_element. is_element.0))
     (λ e t. rw c.expression_count-many.ensures (c.requires.within (Expression e) t))
 

@@ -10,17 +10,15 @@ use Rattle.countermodel.proofs.elements.Elements.by.Goals as goal
 
 pub among-requires-clause-within : goal.among-requires-clause-within
 among-requires-clause-within c = λ x admitted.
-    let s = c.args.closed.now.saturation in
     subst (λ (o : Ontology). IsWithin o x) (sym c.ontology-ontology.ensures)
-    (satisfiable_within c.args.closed.now.ontology s.normal.asked c.well_formed-2.ensures.ontology x ((c.in_ok-satisfiable.ensures x).0 admitted))
+    (satisfiable_within c.args.closed.now.ontology c.args.closed.now.saturation.normal.asked c.well_formed-2.ensures.ontology x ((c.in_ok-satisfiable.ensures x).0 admitted))
 
 pub returns : goal.returns
 returns c =
     let o = c.args.closed.now.ontology in
     let asked = c.args.closed.now.saturation.normal.asked in
-    let s = c.in_ok-satisfiable.satisfiable in
     let is = c.in_ok-satisfiable.ensures in
     let leads = leads_by o asked c.args.groups.now c.requires.groups in
     IfOk-weaker c.among.result _ _
-    (λ e are. are_satisfiable (IsElementBy s c.args.groups.now) e o asked are (λ x. (λ h. ((is x).0 h.0, (leads x).0 h.1), λ h. ((is x).1 h.0, (leads x).1 h.1))))
+    (λ e are. are_satisfiable (IsElementBy c.in_ok-satisfiable.satisfiable c.args.groups.now) e o asked are (λ x. (λ h. ((is x).0 h.0, (leads x).0 h.1), λ h. ((is x).1 h.0, (leads x).1 h.1))))
     c.among.ensures

@@ -33,5 +33,4 @@ returns-in-DifferentIndividuals c =
 
 pub returns-in-Transitive : goal.returns-in-Transitive
 returns-in-Transitive c =
-    let o = c.args.self.now.about.now in
-    subst (λ (a : Axiom). IsTold o (parts_of (axiom_of a)) c.args.self.now.max_facts c.claim_follows-in-Transitive.result) (sym c.in-Transitive.is) c.claim_follows-in-Transitive.ensures
+    subst (λ (a : Axiom). IsTold c.args.self.now.about.now (parts_of (axiom_of a)) c.args.self.now.max_facts c.claim_follows-in-Transitive.result) (sym c.in-Transitive.is) c.claim_follows-in-Transitive.ensures

@@ -15,15 +15,13 @@ is_tested-requires-clause-names c = keeps_on c.args.self.now.known.now c.args.se
 
 pub is_tested-requires-clause-individual : goal.is_tested-requires-clause-individual
 is_tested-requires-clause-individual c =
-    let o = c.args.self.now.about.now in
     let same = c.tested.ensures.individual ∙ ap (λ n. tested_individual n c.args.claim) c.first_added.ensures in
-    subst (λ n. n < length c.in-Ok.test.names.individuals) (sym same) (individual_in_test c.args.self.now.known.now o c.args.claim c.in-Ok.test c.in-Ok.ensures.test c.requires.claim)
+    subst (λ n. n < length c.in-Ok.test.names.individuals) (sym same) (individual_in_test c.args.self.now.known.now c.args.self.now.about.now c.args.claim c.in-Ok.test c.in-Ok.ensures.test c.requires.claim)
 
 pub is_tested-requires-clause-class : goal.is_tested-requires-clause-class
 is_tested-requires-clause-class c =
-    let o = c.args.self.now.about.now in
     subst (λ n. n < length c.in-Ok.test.nodes) (sym c.tested.ensures.class)
-    (class_in_test c.args.self.now.known.now o c.args.claim c.in-Ok.test c.in-Ok.ensures.test c.well_formed-2.ensures c.requires.claim)
+    (class_in_test c.args.self.now.known.now c.args.self.now.about.now c.args.claim c.in-Ok.test c.in-Ok.ensures.test c.well_formed-2.ensures c.requires.claim)
 
 pub returns-in-Ok-is_tested : goal.returns-in-Ok-is_tested
 returns-in-Ok-is_tested c =

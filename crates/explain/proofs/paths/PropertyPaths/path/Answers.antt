@@ -8,8 +8,7 @@ use Rattle.explain.proofs.paths.PropertyPaths.path.Goals as goal
 
 pub returns-in-Some-clause-path : goal.returns-in-Some-clause-path
 returns-in-Some-clause-path c =
-    let self = c.self.inside in
-    let forms = self.problem.now.forms in
+    let forms = c.self.inside.problem.now.forms in
     let there = sym (c.copied.ensures ∙ c.get.ensures.value) ∙ c.in-Some.is in
     let (low, reached) = c.self.invariant.kept c.args.from.0 c.in-Some.place there in
     rw (← c.self.view_is)
@@ -17,20 +16,17 @@ returns-in-Some-clause-path c =
 
 pub returns-then-index-self-clause-path : goal.returns-then-index-self-clause-path
 returns-then-index-self-clause-path c =
-    let self = c.self.inside in
     rw (← c.self.view_is)
-    (beyond self.properties self.problem.now.forms c.args.from c.args.to c.self.invariant.within (omega (arith, c.if-index-self.true, c.index.ensures)) (λ e. grind (arith, nat_tests, c.if-eq.ensures, ap (λ (p : PropId). p.0) e)))
+    (beyond c.self.inside.properties c.self.inside.problem.now.forms c.args.from c.args.to c.self.invariant.within (omega (arith, c.if-index-self.true, c.index.ensures)) (λ e. grind (arith, nat_tests, c.if-eq.ensures, ap (λ (p : PropId). p.0) e)))
 
 pub run-requires-clause-bounded : goal.run-requires-clause-bounded
 run-requires-clause-bounded c =
-    let self = c.self.inside in
-    bounded (LeadsUp self.problem.now.forms) self.properties c.tell.new.told c.in_ok-tell.ensures.told c.self.invariant.within
+    bounded (LeadsUp c.self.inside.problem.now.forms) c.self.inside.properties c.tell.new.told c.in_ok-tell.ensures.told c.self.invariant.within
 
 pub invariant_of-self-in_err-keep : goal.invariant_of-self-in_err-keep
 invariant_of-self-in_err-keep c =
-    let self = c.self.inside in
-    let forms = self.problem.now.forms in
-    let found = found_in (LeadsUp forms) self.properties c.tell.new.told c.in_ok-tell.ensures.told c.args.from.0 c.run.new.self.found.items c.deref.result.now c.in_ok-run.ensures.found c.deref.ensures.value in record {
+    let forms = c.self.inside.problem.now.forms in
+    let found = found_in (LeadsUp forms) c.self.inside.properties c.tell.new.told c.in_ok-tell.ensures.told c.args.from.0 c.run.new.self.found.items c.deref.result.now c.in_ok-run.ensures.found c.deref.ensures.value in record {
       few = c.self.invariant.few;
       within = c.self.invariant.within;
       leads = c.tell.ensures.behind;
@@ -39,9 +35,8 @@ invariant_of-self-in_err-keep c =
 
 pub invariant_of-self-2 : goal.invariant_of-self-2
 invariant_of-self-2 c =
-    let self = c.self.inside in
-    let forms = self.problem.now.forms in
-    let found = found_in (LeadsUp forms) self.properties c.tell.new.told c.in_ok-tell.ensures.told c.args.from.0 c.run.new.self.found.items c.deref.result.now c.in_ok-run.ensures.found c.deref.ensures.value in record {
+    let forms = c.self.inside.problem.now.forms in
+    let found = found_in (LeadsUp forms) c.self.inside.properties c.tell.new.told c.in_ok-tell.ensures.told c.args.from.0 c.run.new.self.found.items c.deref.result.now c.in_ok-run.ensures.found c.deref.ensures.value in record {
       few = c.self.invariant.few;
       within = c.self.invariant.within;
       leads = c.tell.ensures.behind;
@@ -50,15 +45,13 @@ invariant_of-self-2 c =
 
 pub way_to-requires-2 : goal.way_to-requires-2
 way_to-requires-2 c =
-    let self = c.self.inside in
-    let forms = self.problem.now.forms in
-    let found = found_in (LeadsUp forms) self.properties c.tell.new.told c.in_ok-tell.ensures.told c.args.from.0 c.run.new.self.found.items c.deref-2.result.now c.in_ok-run.ensures.found c.deref-2.ensures.value in
+    let forms = c.self.inside.problem.now.forms in
+    let found = found_in (LeadsUp forms) c.self.inside.properties c.tell.new.told c.in_ok-tell.ensures.told c.args.from.0 c.run.new.self.found.items c.deref-2.result.now c.in_ok-run.ensures.found c.deref-2.ensures.value in
     earlier (LeadsUp forms) c.args.from.0 c.deref-2.result.now found.ways
 
 pub returns-clause-path : goal.returns-clause-path
 returns-clause-path c =
-    let self = c.self.inside in
-    let forms = self.problem.now.forms in
-    let found = found_in (LeadsUp forms) self.properties c.tell.new.told c.in_ok-tell.ensures.told c.args.from.0 c.run.new.self.found.items c.deref-2.result.now c.in_ok-run.ensures.found c.deref-2.ensures.value in
+    let forms = c.self.inside.problem.now.forms in
+    let found = found_in (LeadsUp forms) c.self.inside.properties c.tell.new.told c.in_ok-tell.ensures.told c.args.from.0 c.run.new.self.found.items c.deref-2.result.now c.in_ok-run.ensures.found c.deref-2.ensures.value in
     rw (← c.self.view_is)
     (way_is (λ v. v.items) forms c.args.from c.args.to c.deref-2.result.now c.way_to-2.result found c.way_to-2.ensures)

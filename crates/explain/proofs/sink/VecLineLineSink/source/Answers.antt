@@ -8,8 +8,6 @@ use Rattle.explain.proofs.sink.VecLineLineSink.source.Goals as goal
 
 pub returns : goal.returns
 returns c =
-    let lines = c.args.self.now.items in
     let m = c.args.number - 1 in
-    let line = c.index.result.now in
-    let at = slice_get-get_or lines m line (omega (arith, c.if-len-number.false, c.if-number-eq0.false, c.len.ensures)) ∙ ap Some (sym c.index.ensures) in
-    ap Some c.source.ensures ∙ ap (option_map source_of) (at_there line_of (λ l. l.conclusion) lines m c.args.number line at (omega (arith, c.if-number-eq0.false)))
+    let at = slice_get-get_or c.args.self.now.items m c.index.result.now (omega (arith, c.if-len-number.false, c.if-number-eq0.false, c.len.ensures)) ∙ ap Some (sym c.index.ensures) in
+    ap Some c.source.ensures ∙ ap (option_map source_of) (at_there line_of (λ l. l.conclusion) c.args.self.now.items m c.args.number c.index.result.now at (omega (arith, c.if-number-eq0.false)))
