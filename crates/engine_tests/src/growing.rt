@@ -9,7 +9,7 @@ use crate::adding::{add, add_lists, add_with_lists, different};
 use crate::lists::{Refusing, Scripted};
 use crate::problems::{
     ALL_GO_ON, Born, CLASSES_MADE_DISJOINT, ONE_ENDS, PROBLEMS, Problem, SUBCLASS_STATED_AGAIN,
-    SUBCLASSES_IN_A_CIRCLE, TWO_SUBCLASSES,
+    SUBCLASSES_IN_A_CIRCLE, SUBPROPERTY_COMES_LAST, TWO_SUBCLASSES,
 };
 use acts::{ALL, ALL_LISTS, Act, SCRIPTS};
 use axioms::Memory;
@@ -194,6 +194,7 @@ fn has_ended<W: WorkList>(state: &State<W>, problem: &Problem, facts: &[StoredFa
     has_forms(state, problem)
         && has_lists(state, problem)
         && state.facts().len() == problem.facts as usize
+        && state.births().len() == problem.facts as usize
         && state.served() == problem.facts as usize
         && problem
             .born
@@ -386,6 +387,27 @@ const BEHIND: &[Act] = &[
     Act::Run,
     Act::Serves(15),
 ];
+
+/// A property is put below another last: the edges by it wait again, and no other fact.
+const BELOW: &[Act] = &[
+    Act::Extend(4, 3),
+    Act::Run,
+    Act::Serves(10),
+    Act::Extend(1, 0),
+    Act::Serves(7),
+    Act::Run,
+    Act::Serves(13),
+];
+
+#[test]
+fn edges_wait_for_a_property_above(rt: HostRuntime) -> Result<(), Fail> {
+    let alloc = rt.alloc();
+    let seed = RandomState::new(&rt)?;
+    assert!(rt; fits(alloc, seed, &SUBPROPERTY_COMES_LAST));
+    assert!(rt; in_any_order(alloc, seed, &SUBPROPERTY_COMES_LAST, &[], BELOW));
+    assert!(rt; with_each_push_refused(alloc, seed, &SUBPROPERTY_COMES_LAST, &[], BELOW));
+    Ok(())
+}
 
 #[test]
 fn edges_become_seconds(rt: HostRuntime) -> Result<(), Fail> {

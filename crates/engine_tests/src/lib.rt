@@ -70,6 +70,8 @@ mod steps;
 #[cfg(test)]
 mod stored_facts;
 #[cfg(test)]
+mod tagged;
+#[cfg(test)]
 mod taken_out;
 #[cfg(test)]
 mod targets;

@@ -328,6 +328,22 @@ pub(crate) const TWO_SUBCLASSES: Problem = Problem {
     born: None,
 };
 
+/// Four individuals by s, and the transitive r; and then s below r: 3 edges by s, and 3 by r.
+pub(crate) const SUBPROPERTY_COMES_LAST: Problem = Problem {
+    name: "subproperty_comes_last",
+    forms: &[
+        Form::N6(EDGES_R, EDGES_R, EDGES_R),
+        Form::N9(IndId(0), S, IndId(1)),
+        Form::N9(IndId(1), S, IndId(2)),
+        Form::N9(IndId(2), S, IndId(3)),
+        Form::N5(S, R),
+    ],
+    different: &[],
+    roots: &[IN0, IN1, IND0],
+    facts: 13,
+    born: None,
+};
+
 /// A below B, and then B below A.
 pub(crate) const SUBCLASSES_IN_A_CIRCLE: Problem = Problem {
     name: "subclasses_in_a_circle",

@@ -189,3 +189,96 @@ fn growth(rt: HostRuntime) -> Result<(), Fail> {
     assert!(rt; right);
     Ok(())
 }
+
+// the properties v, w and x
+const V: PropId2 = PropId2::Property(PropId(4));
+
+const W: PropId2 = PropId2::Property(PropId(5));
+
+const X: PropId2 = PropId2::Property(PropId(6));
+
+/// `SubObjectPropertyOf(s r)`, and then t below s, u above t, v below t and w above u.
+const STEPS: &[Form] = &[
+    Form::N5(PropId(1), PropId(0)),
+    Form::N5(PropId(2), PropId(1)),
+    Form::N5(PropId(2), PropId(3)),
+    Form::N5(PropId(4), PropId(2)),
+    Form::N5(PropId(3), PropId(5)),
+];
+
+/// The closure that grew by these steps, one after the other.
+fn grown_by_steps(alloc: Global) -> Result<PropertyClosure, Memory>
+    ensures properties { IfOk result (λ c. c.properties ≡ 6) }
+    ensures partials { IfOk result (λ c. c.partials ≡ 0) }
+{
+    let mut closure = closed(alloc, 2, 0, &[Form::N5(PropId(1), PropId(0))])?;
+    grow_by(alloc, &mut closure, 3, 0, &[Form::N5(PropId(2), PropId(1))])?;
+    grow_by(alloc, &mut closure, 4, 0, &[Form::N5(PropId(2), PropId(3))])?;
+    grow_by(alloc, &mut closure, 5, 0, &[Form::N5(PropId(4), PropId(2))])?;
+    grow_by(alloc, &mut closure, 6, 0, &[Form::N5(PropId(3), PropId(5))])?;
+    Ok(closure)
+}
+
+/// Whether each of the six properties is below those that the steps put above it.
+fn has_steps(closure: &PropertyClosure) -> bool {
+    closure.supers(R) == [R].as_slice()
+        && closure.supers(S) == [R, S].as_slice()
+        && closure.supers(T) == [R, S, T, U, W].as_slice()
+        && closure.supers(U) == [U, W].as_slice()
+        && closure.supers(V) == [R, S, T, U, V, W].as_slice()
+        && closure.supers(W) == [W].as_slice()
+}
+
+/// Whether both put the same above each of the six properties.
+fn is_same(one: &PropertyClosure, other: &PropertyClosure) -> bool {
+    one.supers(R) == other.supers(R)
+        && one.supers(S) == other.supers(S)
+        && one.supers(T) == other.supers(T)
+        && one.supers(U) == other.supers(U)
+        && one.supers(V) == other.supers(V)
+        && one.supers(W) == other.supers(W)
+}
+
+#[test]
+fn growth_property_by_property(rt: HostRuntime) -> Result<(), Fail> {
+    let closure = grown_by_steps(rt.alloc())?;
+    let copy = closure.copy()?;
+    let at_once = closed(rt.alloc(), 6, 0, STEPS)?;
+    let right = has_steps(&closure) && has_steps(&copy);
+    let same = is_same(&closure, &at_once) && is_same(&copy, &at_once);
+    drop(closure);
+    drop(copy);
+    drop(at_once);
+    assert!(rt; right);
+    assert!(rt; same);
+    Ok(())
+}
+
+/// Whether x is above r, and so above all that is below r.
+fn has_new_top(closure: &PropertyClosure) -> bool {
+    closure.supers(R) == [R, X].as_slice()
+        && closure.supers(S) == [R, S, X].as_slice()
+        && closure.supers(T) == [R, S, T, U, W, X].as_slice()
+        && closure.supers(U) == [U, W].as_slice()
+        && closure.supers(V) == [R, S, T, U, V, W, X].as_slice()
+        && closure.supers(X) == [X].as_slice()
+}
+
+#[test]
+fn copies_grow_apart(rt: HostRuntime) -> Result<(), Fail> {
+    let mut closure = grown_by_steps(rt.alloc())?;
+    let mut copy = closure.copy()?;
+    let top = &[Form::N5(PropId(0), PropId(6))];
+    grow_by(rt.alloc(), &mut closure, 7, 0, top)?;
+    let above = has_new_top(&closure);
+    let still = has_steps(&copy) && is_out_of_range(&copy, X);
+    let bottom = &[Form::N5(PropId(6), PropId(4))];
+    grow_by(rt.alloc(), &mut copy, 7, 0, bottom)?;
+    let below = has_steps(&copy) && copy.supers(X) == [R, S, T, U, V, W, X].as_slice();
+    drop(closure);
+    drop(copy);
+    assert!(rt; above);
+    assert!(rt; still);
+    assert!(rt; below);
+    Ok(())
+}

@@ -165,6 +165,17 @@ fn lists_that_grow(rt: HostRuntime) -> Result<(), Fail> {
     Ok(())
 }
 
+#[test]
+fn lists_with_room_grow_past_it(rt: HostRuntime) -> Result<(), Fail> {
+    let mut lists: OpenLists<(u32, bool)> = OpenLists::with_room(rt.alloc(), &[0, 1])?;
+    let pushed = push_three(&mut lists);
+    let has_grown = has_grown(&lists);
+    drop(lists);
+    pushed?;
+    assert!(rt; has_grown);
+    Ok(())
+}
+
 /// Whether the list has these numbers once it is sorted.
 fn is_sorted_to(list: &mut Vec<u32>, numbers: &[u32]) -> bool {
     sort_ascending(list);
