@@ -11,7 +11,7 @@ use Rattle.certificate.specs.LineReading.{premise_at, premises_at}
 use Rattle.certificate.specs.SourceReading.{premises_kept}
 use Rattle.certificate.specs.SingleLines.{AreKept, read_premise, is_back}
 use Rattle.certificate.proofs.Decimals.{IsApart}
-use Rattle.certificate.proofs.Many.{IsReadSoFar, none_read, one_more_read, all_read, shorter}
+use Rattle.certificate.proofs.Many.{IsReadSoFar, one_more_read, all_read, shorter}
 use Rattle.certificate.proofs.Derivations.{EndsLine, IsNumber, premise_text, each_premise_reads}
 
 pub record IsKeptSoFar (format : Format) (number : ℕ) (most : Option ℕ) (bytes kept : List ℕ) (fit : Bool) (rest : List ℕ) : Type 0 where
@@ -27,18 +27,6 @@ none_kept (Some most) = refl
 no_premises : (format : Format) (number : ℕ) → written_premises format number [] ≡ []
 no_premises One number = refl
 no_premises Two number = refl
-
-pub none_kept_yet : (format : Format) (number : ℕ) (most : Option ℕ) (bytes : List ℕ) → number < 2 ^ 64 → IsKeptSoFar format number most bytes [] true bytes
-none_kept_yet format number most bytes small = record {
-  all = [];
-  so_far = none_read (λ _. premise_at) bytes;
-  kept_is = none_kept most ∙ ap (premises_kept most) (sym (no_premises format number));
-  fit_is = sym (none_back format);
-}
-  where
-    none_back : (format : Format) → are_back format number [] ≡ true
-    none_back One = refl
-    none_back Two = ap (λ b. b && true) (lt-ltb number (2 ^ 64) small)
 
 and_true : (b : Bool) → (b && true) ≡ b
 and_true false = refl

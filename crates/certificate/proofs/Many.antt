@@ -124,6 +124,3 @@ pub next_read : {A B : Type 0} (view : B → A) (read : Option A → Reader A) (
 next_read {A} view read bytes items new rest x mid e h f =
     let e' : map view new ≡ map view items ++ view x ∷ [] = ap (map view) e ∙ map_push view items x in
     subst (λ (ys : List A). IsReadSoFar read bytes ys mid) (sym e') (one_more_read read bytes (map view items) rest (view x) mid h f)
-
-pub next_last : {A B : Type 0} (view : B → A) (items new : List B) (x : B) → new ≡ items ++ x ∷ [] → last_or None (map view new) ≡ Some (view x)
-next_last {A} view items new x e = ap (λ (ys : List A). last_or None ys) (ap (map view) e ∙ map_push view items x) ∙ last_push None (map view items) (view x)

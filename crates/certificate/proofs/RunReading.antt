@@ -169,22 +169,6 @@ held_ascending d (x ∷ y ∷ xs) t =
     let r = and_parts (ltb y d) (ltb x y) q.0 in
     rw r.1 refl
 
--- elements by their runs, written out
-pub held_numbers : (d : ℕ) (bytes ends numbers rest : List ℕ) → HoldsRuns d bytes ends rest → numbers ≡ spread ends → HoldsElements d bytes numbers rest
-held_numbers d bytes ends numbers rest h e =
-    let own : held_in (spread ends) ≡ spread ends = held_ascending d (spread ends) h.ascend in
-    let same : held_in numbers ≡ spread ends = ap held_in e ∙ own in
-    record {
-      read = h.read ∙ ap (λ (xs : List ℕ). Some (xs, rest)) (sym same);
-      ascend = subst (λ (xs : List ℕ). ascend d None xs ≡ true) (sym same) h.ascend;
-    }
-
-pub held_runs : (d : ℕ) (bytes ends rest : List ℕ) → HoldsRuns d bytes ends rest → HoldsElements d bytes ends rest
-held_runs d bytes ends rest h = record {
-  read = h.read ∙ ap (λ (xs : List ℕ). Some (xs, rest)) (sym h.held);
-  ascend = subst (λ (xs : List ℕ). ascend d None xs ≡ true) (sym h.held) h.ascend;
-}
-
 -- .. and as they are read
 pub all_numbers : (d : ℕ) (bytes numbers : List ℕ) (before : Option Run) (rest : List ℕ) → AreNumbersSoFar d bytes numbers before rest → next_run_at d before rest ≡ None → HoldsElements d bytes numbers rest
 all_numbers d bytes numbers before rest h e =

@@ -140,10 +140,6 @@ from_again Two before (line ∷ lines) t h =
         let q = and_parts (is_small_axiom line.axiom') (list_all is_premise line.premises) p.1 in
         ap (λ (ps : List ℕ). record line { premises = ps }) (distances_again n line.premises q.1 h)
 
-first_is_long : (format : Format) → length (first_line format) ≡ 20
-first_is_long One = refl
-first_is_long Two = refl
-
 behind_first : (format : Format) (bytes : List ℕ) → drop 20 (first_line format ++ bytes) ≡ bytes
 behind_first One bytes = refl
 behind_first Two bytes = refl

@@ -21,10 +21,6 @@ turned itself = itself
 turned (forth {b = b} c p form) = and_then (back b itself form) (turned p)
 turned (back {b = b} c p form) = and_then (forth b itself form) (turned p)
 
-pub by_link : {o : Ontology} {asked : List ℕ} {a b : ℕ} → IsLink o asked a b → AreSame o asked a b
-by_link {a = a} (inl form) = forth a itself form
-by_link {a = a} (inr form) = back a itself form
-
 -- what goes along each link goes to all that are one
 pub along_links : (o : Ontology) (asked : List ℕ) (P : ℕ → Type 0) → ((a b : ℕ) → IsLink o asked a b → P a → P b) → {a b : ℕ} → AreSame o asked a b → P a → P b
 along_links o asked P step itself p = p

@@ -1,15 +1,14 @@
 -- Cutting one token out of a text.
-use Rattle.std.proofs.Common.{◌≡◌, ℕ, ◌+◌, ◌-◌, ◌<◌, ◌≤◌, List, [], ◌∷◌, ◌++◌, length, get_or, take, drop, Some, None, sym, ap, subst, ◌∙◌, append_assoc, arith}
+use Rattle.std.proofs.Common.{◌≡◌, ℕ, ◌+◌, ◌-◌, ◌<◌, ◌≤◌, List, [], ◌∷◌, ◌++◌, length, get_or, take, drop, Some, sym, ap, subst, ◌∙◌, append_assoc, arith}
 use Rattle.std.specs.Str.{IsUtf8, IsCharBoundary}
 use Rattle.std.proofs.lemmas.Str.{IsCharBoundary-before_ascii, IsCharBoundary-after_ascii}
 use Rattle.std.proofs.lemmas.List.{length-append, length-drop, get_or-append-add, take-append-drop, take_all}
-use Rattle.std.proofs.lemmas.Option.{none-some}
 use Rattle.std.proofs.Math.Seq.{drop-append_seam, take-append_seam}
 use Rattle.fs_lexer.specs.Spelling.{Token, Kind, IsOfKind}
 use Rattle.fs_lexer.specs.Reading.{skip, token_at, ahead, AreReadFrom}
 use Rattle.fs_lexer.proofs.Pieces.{skip_takes}
 use Rattle.fs_lexer.proofs.Fronts.{token_takes}
-use Rattle.fs_lexer.proofs.State.{kind_ends, ahead_was, ahead_none, next_token}
+use Rattle.fs_lexer.proofs.State.{kind_ends, ahead_was, next_token}
 
 -- the token at the front of the last bytes of a text
 pub record IsCut (text rest others : List ℕ) (kind : Kind) : Type 0 where
@@ -82,9 +81,6 @@ reads_first text from rest others kind here cut more h =
       (let same : length (skip (drop from text)) ≡ length rest = ap length (sym here) in omega arith),
       subst (λ (bytes : List ℕ). AreReadFrom (length text) bytes more) (sym cut.behind) h,
     )
-
-pub reads_none : (n : ℕ) (bytes rest : List ℕ) → rest ≡ skip bytes → None ≡ ahead (token_at rest) → (token : Token) (more : List Token) → AreReadFrom n bytes (token ∷ more) → ⊥
-reads_none n bytes rest here e token more (r, t, place, others) = none-some _ (sym (ap token_at (sym here) ∙ ahead_none (token_at rest) e) ∙ t)
 
 -- what is cut out is a token of its kind
 pub cut_of_kind : (text rest others : List ℕ) (kind : Kind) → IsCut text rest others kind → IsOfKind kind (next_token text rest others kind).text

@@ -130,9 +130,6 @@ pub record IsReadTo (all rest : List Token) (n : ℕ) : Type 0 where
   pub tokens_are : all ≡ before ++ rest
   pub open_there : opened before ≡ closed before + n
 
-pub none_read_yet : (all : List Token) → IsReadTo all all 0
-none_read_yet all = record { before = []; tokens_are = refl; open_there = refl }
-
 only_names : (prefixes : Prefixes) (t : Token) (r : Option code_iri.Iri) → IfSome r (λ i. IsNameOf prefixes t (iri_of i)) → OnlyNames (name_of_code r) t.kind
 only_names prefixes t None some iri e = absurd (none-some iri e)
 only_names prefixes t (Some i) some iri e = elim some [ inl a ↦ inl a.0 | inr b ↦ inr b.0 ]
@@ -284,16 +281,6 @@ end_trees view (Err e) limit here prefixes all ts d s l h ends given said =
 pub balanced : (all : List Token) (ts : List lexer.Token) (n : ℕ) → IsReadTo all (tokens_of ts) n → length ts ≡ 0 → closed all ≤ opened all
 balanced all [] n h none = subst (λ us. closed us ≤ opened us) (sym (all_before h.before [] all h.tokens_are refl)) (omega (arith, h.open_there))
 balanced all (t ∷ ts) n h none = absurd (omega arith)
-
--- an end that is told where no token is left
-pub end_plain : (here : ℕ) (rest : List Token) (e : ParseFault) → rest ≡ [] → IsEnd here e → IsPlain here rest e
-end_plain here rest faults.Memory none s = tt
-end_plain here rest (faults.UnexpectedEnd at) none s = (s, none)
-end_plain here rest (faults.Unexpected at) none s = absurd s
-end_plain here rest (faults.UnknownPrefix at) none s = absurd s
-end_plain here rest (faults.PrefixTwice at) none s = absurd s
-end_plain here rest (faults.StandardPrefixChanged at) none s = absurd s
-end_plain here rest (faults.TooDeep at) none s = absurd s
 
 -- ---- declarations, and what stands behind them
 

@@ -129,11 +129,6 @@ pub not_ended : (fs : List code_frame.Frame) (done : List Tree) (pending : machi
 not_ended [] done pending l = absurd (omega arith)
 not_ended (f ∷ fs) done pending l = never_ends (frames_of fs) (frame_of f) done pending
 
--- no parenthesis is open
-pub frames_none : (fs : List code_frame.Frame) → length fs ≡ 0 → frames_of fs ≡ []
-frames_none [] e = refl
-frames_none (f ∷ fs) e = absurd (omega arith)
-
 pub still_open : (fs : List code_frame.Frame) (pending : machine.Pending) (kind : Kind) → 0 < length fs → machine.ends_at (frames_of fs) pending kind ≡ false
 still_open [] pending kind l = absurd (omega arith)
 still_open (f ∷ fs) pending kind l = go (frames_of fs)

@@ -4,7 +4,7 @@ use Rattle.std.proofs.lemmas.List.{append-nil, length-append}
 use Rattle.std.proofs.Math.Seq.{take-append_seam}
 use Rattle.std.specs.Option.{IfSome, IfNone}
 use Rattle.std.specs.Result.{IfOk, result_ok}
-use Rattle.fs_lexer.specs.Reading.{AreReadFrom, IsRead}
+use Rattle.fs_lexer.specs.Reading.{AreReadFrom}
 use Rattle.fs_lexer.specs.Spelling.{Token}
 use Rattle.fs_lexer.proofs.Whole.{spelling_is_reading}
 use Rattle.fs_parser.specs.Document.{Document, IsDocument, AreDeclarations, prefixes_of}
@@ -26,12 +26,6 @@ use Rattle.fs_parser.proofs.Steps.{name_same}
 
 pub nothing_yet : (text : List ℕ) → BeginText text [] 0
 nothing_yet text = record { within = omega arith; reads = λ more h. h }
-
-pub one_more_token : (text : List ℕ) (tokens : List Token) (t : Token) (from behind : ℕ) → BeginText text tokens from → behind ≤ length text
-    → ((more : List Token) → AreReadFrom (length text) (drop behind text) more → AreReadFrom (length text) (drop from text) (t ∷ more))
-    → BeginText text (tokens ++ t ∷ []) behind
-one_more_token text tokens t from behind h l read =
-    record { within = l; reads = λ more k. subst (IsRead text) (sym (append_assoc tokens (t ∷ []) more)) (h.reads (t ∷ more) (read more k)) }
 
 -- ---- the trees
 

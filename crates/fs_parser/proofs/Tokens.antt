@@ -33,10 +33,6 @@ cut_behind front b rest small u =
     ap (λ (n : ℕ). drop n text) place ∙ ap (drop (length (front ++ b ∷ []))) (sym (append_assoc front (b ∷ []) rest)) ∙ drop-append_seam (front ++ b ∷ []) rest in
     subst IsUtf8 left (IsUtf8-drop text (length front + 1) u at)
 
--- what stands between < and > in a UTF-8 text
-pub bracket_utf8 : (text iri : List ℕ) → IsUtf8 text → IsBracketed iri text → IsUtf8 iri
-bracket_utf8 text iri u e = cut_before iri 62 [] (omega arith) (cut_behind [] 60 (iri ++ 62 ∷ []) (omega arith) (subst IsUtf8 e u))
-
 -- ---- tokens
 
 -- the token is of its kind, and what it has between < and > is UTF-8

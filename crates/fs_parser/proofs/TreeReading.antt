@@ -6,11 +6,11 @@ use Rattle.fs_lexer.specs.Reading.{AreReadFrom}
 use Rattle.fs_lexer.specs.Spelling.{Token}
 use Rattle.fs_lexer.specs.declared.token.Kind.TheVariants.{Closing}
 use Rattle.fs_parser.specs.Machine.{State, step, finish, start}
-use Rattle.fs_parser.specs.Name.{Prefixes, StandForOne, IsNameOf, standard_prefixes}
+use Rattle.fs_parser.specs.Name.{Prefixes, StandForOne, IsNameOf}
 use Rattle.fs_parser.specs.State.{name_of_code}
 use Rattle.fs_parser.specs.Stream.{AreTreesBehind, BeginText, IsHeader}
 use Rattle.fs_parser.specs.Tree.{Tree, Empty, depth}
-use Rattle.fs_parser.specs.Rest.{IsFirst, IsStartOf, IsTreeAt, text_left}
+use Rattle.fs_parser.specs.Rest.{IsStartOf, IsTreeAt, text_left}
 use Rattle.fs_parser.specs.View.{trees_from, iri_of}
 use Rattle.fs_parser.specs.declared.iri.Iri as code_iri
 use Rattle.fs_parser.proofs.Sound.{run_reads}
@@ -66,10 +66,6 @@ tree_read text at from prefixes s tree h e =
     begun : (s ≡ start) ⊎ (at < from) → at < from
     begun (inl none) = absurd (let empty : Some [] ≡ Some (tree ∷ []) = ap finish (sym none) ∙ e in cc)
     begun (inr l) = l
-
-pub tree_first : (declared : Prefixes) (text : List ℕ) (at : ℕ) (tree : Tree) (behind : ℕ) → IsTreeAt text at (standard_prefixes ++ declared) tree behind
-    → IsFirst (text_left declared text at) tree (text_left declared text behind)
-tree_first declared text at tree behind h = record { declared = refl; text = refl; fewer = omega (arith, h.later, h.within); others = h.others }
 
 -- ---- the start and the end
 

@@ -1,6 +1,5 @@
 -- Rows with many targets as sets of numbers, and what they cover.
 use Rattle.std.proofs.Common.{◌≡◌, ◌↔◌, ◌⊎◌, inl, inr, ℕ, ◌<◌, ◌≤◌, List, [], ◌∷◌, ◌++◌, Bool, true, false, length, map, take, get_or, slice_get, Some, Contains, sym, ap, ap₂, ◌∙◌, subst, arith}
-use Rattle.std.specs.Prelude.{IsTrue}
 use Rattle.std.specs.List.{list_any}
 use Rattle.std.specs.List.Sorted.{IsNonDecreasing, IsStrictlyIncreasing}
 use Rattle.std.proofs.lemmas.Bool.{cases_lt, false_from_ne_true}
@@ -15,7 +14,7 @@ use Rattle.number_sets.specs.Members.{has}
 use Rattle.listed_model.specs.declared.wide.WideRow.{WideRow}
 use Rattle.listed_model.specs.Listing.{targets_of}
 use Rattle.listed_model.specs.Members.{holds}
-use Rattle.listed_model.specs.Rows.{ArePairRows, ClosedAt}
+use Rattle.listed_model.specs.Rows.{ArePairRows}
 use Rattle.listed_model.specs.WideRows.{AreClosed, AreWide, HasTargets, LeadsInto}
 use Rattle.listed_model.proofs.Members.{holds_from_Contains, Contains_from_holds}
 use Rattle.listed_model.proofs.Walks.{row_targets}
@@ -79,22 +78,6 @@ pub wide_has : (rows : List (ℕ × ℕ × List ℕ)) (n : ℕ) (wide : List Wid
 wide_has rows n wide own r x given there p s y = All-contains (HasTargets rows) wide own given.each there y ∙ ap (λ ts. holds ts y) (ap₂ (targets_of rows) p s)
 
 -- ---- what is covered
-
--- what was found within members, and what that covers
-pub into_next : (rows : List (ℕ × ℕ × List ℕ)) (r number : ℕ) (members old new : List Bool) (ends : ℕ → Bool) (within covering : Bool)
-    → ((y : ℕ) → ends y ≡ holds (targets_of rows r number) y)
-    → (IsTrue within ↔ ((y : ℕ) → ends y ≡ true → has members y ≡ true))
-    → ((y : ℕ) → has new y ≡ true → (has old y ≡ true) ⊎ ((within ≡ true) × (covering ≡ true) × (ends y ≡ true)))
-    → (covering ≡ true → ClosedAt rows r number)
-    → ((y : ℕ) → has old y ≡ true → LeadsInto rows r members y)
-    → ((y : ℕ) → has new y ≡ true → LeadsInto rows r members y) × (IsTrue within ↔ LeadsInto rows r members number)
-into_next rows r number members old new ends within covering is found grown closed before = (
-  λ y h. elim (grown y h) [
-    | inl m ↦ before y m
-    | inr (t, d, e) ↦ (λ z u. found.0 t z (is z ∙ closed d y (sym (is y) ∙ e) z u))
-  ],
-  (λ t z u. found.0 t z (is z ∙ u), λ h. found.1 (λ y e. h y (sym (is y) ∙ e))),
-)
 
 -- the targets as a set, and their sources in another order
 pub closed_by_set : (rows : List (ℕ × ℕ × List ℕ)) (r : ℕ) (targets ordered : List ℕ) (members : List Bool)

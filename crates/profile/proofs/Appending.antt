@@ -55,9 +55,6 @@ module _ {A : Type 0} (same : A → A → Bool) where
       ∙ ap₂ (λ zs seen. zs ++ first_places_from same seen ys) s.same_places s.same_seen
       ∙ sym (places_append xs ys [])
 
-  pub places_once : (xs : List A) → first_places same (first_places same xs) ≡ first_places same xs
-  places_once xs = (settled xs []).same_places
-
   -- ---- lists that grow
 
   pub appends_nothing : (old : List A) → first_places same old ≡ old → Appends same old [] old

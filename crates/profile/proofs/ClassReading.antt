@@ -141,9 +141,6 @@ and_fits cs o q ns many distinct read = record {
   within = let P : ℕ → Type 0 = λ k. All (λ n. n < k) ns in subst P (length_trees q) (numbers_within (trees q) ns cs read.at);
 }
 
-pub and_unnamed : (cs : List ClassExpression) (o q : Ontology) (ns : List ℕ) → 2 ≤ length cs → ReadsClasses cs o q ns → class_name (tree_of q.names (trees q) (And ns)) ≡ None
-and_unnamed cs o q ns many read = ap (λ xs. class_name (intersection xs)) (numbers_stand (trees q) (Named []) ns cs read.at) ∙ (whole_of cs many).unnamed
-
 pub and_read : (cs : List ClassExpression) (o q s : Ontology) (ns : List ℕ) (f : ℕ) → 2 ≤ length cs → ReadsClasses cs o q ns → HasAdded q s f (tree_of q.names (trees q) (And ns)) → ReadsClass (intersection cs) o s f
 and_read cs o q s ns f many read added =
     let P : ClassExpression → Type 0 = HasAdded q s f in

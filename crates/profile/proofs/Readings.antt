@@ -19,9 +19,8 @@ use Rattle.profile.specs.declared.fault.DocumentFault.TheVariants as faults
 use Rattle.profile.specs.Documents.{AreTextOf, IsTaken, OpensAs, ReadsAs}
 use Rattle.profile.specs.Reading.{AreReadAs}
 use Rattle.profile.specs.Statements.{statements}
-use Rattle.fs_lexer.specs.declared.token.LexFault.{LexFault}
 use Rattle.fs_lexer.specs.declared.token.LexFault.TheVariants as lexing
-use Rattle.profile.specs.Faults.{AreNoDocument, IsOfForms, OpensKnown, ReadsKnown, Refuses, RefusesKnown, of_lexing, of_parsing}
+use Rattle.profile.specs.Faults.{AreNoDocument, IsOfForms, OpensKnown, ReadsKnown, Refuses, RefusesKnown, of_parsing}
 use Rattle.profile.proofs.Bounds.{axioms_take_bytes}
 use Rattle.profile.proofs.Sayable.{read_sayable}
 
@@ -40,14 +39,6 @@ module _ (text : List ℕ) (tokens : List Token) (utf8 : IsUtf8 text) (spelled :
   parse_fault version (parsing.StandardPrefixChanged at) none placed = no_document (parsing.StandardPrefixChanged at) tt none placed
   parse_fault version (parsing.TooDeep at) none placed = no_document (parsing.TooDeep at) tt none placed
   parse_fault version parsing.Memory none placed = tt
-
--- faults of tokens, and of what they make
-pub of_tokens : (f : LexFault) → IsOfForms (of_lexing f)
-of_tokens (lexing.BadByte at) = tt
-of_tokens (lexing.OpenString at) = tt
-of_tokens (lexing.OpenIri at) = tt
-of_tokens (lexing.WordsTouch at) = tt
-of_tokens lexing.Memory = tt
 
 pub of_forms : (f : ParseFault) → IsOfForms (of_parsing f)
 of_forms (parsing.Unexpected at) = tt

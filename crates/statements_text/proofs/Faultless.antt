@@ -46,15 +46,10 @@ two_no a b = let e = and_no b in let f = and_no a in rw (e, f) refl
 mutual
   pub same_class : (c d : ClassExpression) (at to : ℕ) → same_tree (term_tree at (class_term c)) (term_tree to (class_term d)) ≡ same_expression c d
   same_class (Named c) (Named d) at to = refl
-  same_class (Named c) (Intersection us) at to = refl
-  same_class (Named c) (SomeValues s d) at to = refl
-  same_class (Intersection os) (Named d) at to = refl
   same_class (Intersection os) (Intersection us) at to = same_each os us (at + 21) (to + 21)
-  same_class (Intersection os) (SomeValues s d) at to = refl
-  same_class (SomeValues r c) (Named d) at to = refl
-  same_class (SomeValues r c) (Intersection us) at to = refl
   same_class (SomeValues r c) (SomeValues s d) at to =
       ap (λ (b : Bool). bytes_eq r s && b) (and_yes _ ∙ same_class c d (at + 21 + length (term_text (Word r)) + 1) (to + 21 + length (term_text (Word s)) + 1))
+  same_class _ _ at to = refl
 
   same_each : (os us : Operands) (at to : ℕ) → same_trees (terms_trees at (operand_terms os)) (terms_trees to (operand_terms us)) ≡ same_operands os us
   same_each (Pair c d) (Pair e f) at to =

@@ -76,8 +76,4 @@ pub no_forms : (version : Version) (e : DocumentFault) (bytes : List ℕ) → Re
 no_forms version (faults.Lex fault) bytes h k = h
 no_forms version (faults.Parse fault) bytes h k = h
 no_forms version faults.Memory bytes h k = tt
-no_forms version (faults.NotUtf8 at) bytes h k = absurd k
-no_forms version (faults.Faults found) bytes h k = absurd k
-no_forms version faults.TooManyNames bytes h k = absurd k
-no_forms version faults.TooLarge bytes h k = absurd k
-no_forms version faults.Io bytes h k = absurd k
+no_forms version _ bytes h k = absurd k

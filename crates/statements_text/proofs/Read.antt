@@ -2,8 +2,8 @@
 use Rattle.std.proofs.Common.{◌≡◌, ℕ, ◌+◌, false, List, [], ◌∷◌, length, refl, sym, subst}
 use Rattle.std.specs.Prelude as prelude
 use Rattle.std.specs.Str.{IsUtf8}
-use Rattle.axioms.specs.Axiom.{SubClassOf, EquivalentClasses, DisjointClasses, SubPropertyOf, EquivalentProperties, PropertyDomain, TransitiveProperty, ReflexiveProperty, ClassAssertion, PropertyAssertion, SameIndividuals, DifferentIndividuals, NegativePropertyAssertion}
-use Rattle.axioms.specs.Numbering.{Statement, IsOntologyOf, DeclaresClass, DeclaresProperty, DeclaresIndividual, States}
+use Rattle.axioms.specs.Axiom.{SubClassOf, EquivalentClasses, DisjointClasses, SubPropertyOf, EquivalentProperties, SameIndividuals, DifferentIndividuals}
+use Rattle.axioms.specs.Numbering.{Statement, IsOntologyOf, States}
 use Rattle.fs_lexer.specs.Spelling.{Spells}
 use Rattle.program.specs.declared.version.Version.{Version}
 use Rattle.shapes.specs.Faults.{document_faults, each_faults, is_annotation, is_name}
@@ -29,22 +29,8 @@ all_shallow version (s ∷ ss) h = (h.0.shallow, all_shallow version ss h.1)
 -- ---- faults
 
 plain : (s : Statement) (at : ℕ) → (is_name (term_tree at (statement_term s)) ≡ false) × (is_annotation (term_tree at (statement_term s)) ≡ false)
-plain (DeclaresClass c) at = (refl, refl)
-plain (DeclaresProperty c) at = (refl, refl)
-plain (DeclaresIndividual c) at = (refl, refl)
 plain (States (SubClassOf c d)) at = (refl, refl)
-plain (States (EquivalentClasses cs)) at = (refl, refl)
-plain (States (DisjointClasses cs)) at = (refl, refl)
-plain (States (SubPropertyOf rs s)) at = (refl, refl)
-plain (States (EquivalentProperties rs)) at = (refl, refl)
-plain (States (PropertyDomain r c)) at = (refl, refl)
-plain (States (TransitiveProperty r)) at = (refl, refl)
-plain (States (ReflexiveProperty r)) at = (refl, refl)
-plain (States (ClassAssertion c a)) at = (refl, refl)
-plain (States (PropertyAssertion r a b)) at = (refl, refl)
-plain (States (SameIndividuals xs)) at = (refl, refl)
-plain (States (DifferentIndividuals xs)) at = (refl, refl)
-plain (States (NegativePropertyAssertion r a b)) at = (refl, refl)
+plain _ at = (refl, refl)
 
 none_in_lines : (version : Version) (ss : List Statement) (at : ℕ) → AllWritable version ss → each_faults version prelude.None expecting.Axiom (lines_trees at (statement_terms ss)) ≡ []
 none_in_lines version [] at h = refl
@@ -60,22 +46,13 @@ faultless version (s ∷ ss) at h = let p = plain s at in rw (p.0, p.1) (none_in
 -- ---- the whole
 
 with_operands : (s : Statement) → IsSoundStatement s → HasOperands s
-with_operands (DeclaresClass c) h = tt
-with_operands (DeclaresProperty r) h = tt
-with_operands (DeclaresIndividual a) h = tt
-with_operands (States (SubClassOf c d)) h = tt
 with_operands (States (EquivalentClasses cs)) h = h.0
 with_operands (States (DisjointClasses cs)) h = h.0
 with_operands (States (SubPropertyOf rs s)) h = h.0
 with_operands (States (EquivalentProperties rs)) h = h.0
-with_operands (States (PropertyDomain r c)) h = tt
-with_operands (States (TransitiveProperty r)) h = tt
-with_operands (States (ReflexiveProperty r)) h = tt
-with_operands (States (ClassAssertion c a)) h = tt
-with_operands (States (PropertyAssertion r a b)) h = tt
 with_operands (States (SameIndividuals xs)) h = h.0
 with_operands (States (DifferentIndividuals xs)) h = h.0
-with_operands (States (NegativePropertyAssertion r a b)) h = tt
+with_operands _ h = tt
 
 all_writable : (version : Version) (ss : List Statement) → AllSayable version ss → AllWritable version ss
 all_writable version [] h = tt

@@ -2,9 +2,9 @@
 use Rattle.std.proofs.Common.{◌≡◌, ℕ, ◌+◌, ◌≤◌, true, false, List, [], ◌∷◌, ◌++◌, length, refl, sym, subst, arith}
 use Rattle.std.specs.Str.{bytes_eq}
 use Rattle.std.proofs.lemmas.Bool.{false≢true}
-use Rattle.axioms.specs.Axiom.{SubClassOf, EquivalentClasses, DisjointClasses, SubPropertyOf, EquivalentProperties, PropertyDomain, TransitiveProperty, ReflexiveProperty, ClassAssertion, PropertyAssertion, SameIndividuals, DifferentIndividuals, NegativePropertyAssertion}
+use Rattle.axioms.specs.Axiom.{SubClassOf, EquivalentClasses, DisjointClasses, SubPropertyOf, EquivalentProperties, PropertyDomain, ClassAssertion, PropertyAssertion, SameIndividuals, DifferentIndividuals, NegativePropertyAssertion}
 use Rattle.axioms.specs.Expression.{ClassExpression, Iri}
-use Rattle.axioms.specs.Numbering.{Statement, DeclaresClass, DeclaresProperty, DeclaresIndividual, States, same_expression}
+use Rattle.axioms.specs.Numbering.{Statement, States, same_expression}
 use Rattle.fs_parser.specs.Tree.{Tree, Name}
 use Rattle.program.specs.declared.version.Version.{Version}
 use Rattle.program.specs.declared.version.Version.TheVariants.{One, Two}
@@ -137,9 +137,6 @@ different (r ∷ s ∷ rs) at few h apart =
 
 -- a statement whose names and operands are as they have to be has no fault in a version that takes it
 pub sound_statement : (version : Version) (s : Statement) → takes version (since s) ≡ true → IsSoundStatement s → HasNoFault version s
-sound_statement One (DeclaresClass c) t h at = rw h refl
-sound_statement One (DeclaresProperty r) t h at = rw h refl
-sound_statement One (DeclaresIndividual a) t h at = rw h refl
 sound_statement One (States (SubClassOf c d)) t h at =
     let front = at + 11 in
     let p = plain_class c front in
@@ -158,8 +155,6 @@ sound_statement One (States (PropertyDomain r c)) t h at =
     let a = sound_class One c (at + 21 + length (term_text (Word r)) + 1) h.1 in
     let b = h.0 in
     rw (b, a) refl
-sound_statement One (States (TransitiveProperty r)) t h at = rw h refl
-sound_statement One (States (ReflexiveProperty r)) t h at = rw h refl
 sound_statement One (States (ClassAssertion c i)) t h at =
     let p = plain_class c (at + 15) in
     let a = sound_class One c (at + 15) h.0 in
@@ -169,9 +164,6 @@ sound_statement One (States (PropertyAssertion r a b)) t h at = let x = h.0 in l
 sound_statement One (States (SameIndividuals xs)) t h at = absurd (false≢true t)
 sound_statement One (States (DifferentIndividuals xs)) t h at = absurd (false≢true t)
 sound_statement One (States (NegativePropertyAssertion r a b)) t h at = absurd (false≢true t)
-sound_statement Two (DeclaresClass c) t h at = rw h refl
-sound_statement Two (DeclaresProperty r) t h at = rw h refl
-sound_statement Two (DeclaresIndividual a) t h at = rw h refl
 sound_statement Two (States (SubClassOf c d)) t h at =
     let front = at + 11 in
     let p = plain_class c front in
@@ -190,8 +182,6 @@ sound_statement Two (States (PropertyDomain r c)) t h at =
     let a = sound_class Two c (at + 21 + length (term_text (Word r)) + 1) h.1 in
     let b = h.0 in
     rw (b, a) refl
-sound_statement Two (States (TransitiveProperty r)) t h at = rw h refl
-sound_statement Two (States (ReflexiveProperty r)) t h at = rw h refl
 sound_statement Two (States (ClassAssertion c i)) t h at =
     let p = plain_class c (at + 15) in
     let a = sound_class Two c (at + 15) h.0 in
@@ -201,3 +191,4 @@ sound_statement Two (States (PropertyAssertion r a b)) t h at = let x = h.0 in l
 sound_statement Two (States (SameIndividuals xs)) t h at = same xs at h.0 h.1 h.2
 sound_statement Two (States (DifferentIndividuals xs)) t h at = different xs at h.0 h.1 h.2
 sound_statement Two (States (NegativePropertyAssertion r a b)) t h at = let x = h.0 in let y = h.1 in let z = h.2 in rw (x, y, z) refl
+sound_statement _ _ t h at = rw h refl

@@ -147,11 +147,8 @@ assertion version c i at =
 -- what a statement's tree states is the statement
 pub stated : (version : Version) (s : Statement) (at : ℕ) → IsWritable version s → statement_of version (term_tree at (statement_term s)) ≡ s ∷ []
 stated One (DeclaresClass c) at h = refl
-stated Two (DeclaresClass c) at h = refl
 stated One (DeclaresProperty r) at h = refl
-stated Two (DeclaresProperty r) at h = refl
 stated One (DeclaresIndividual a) at h = refl
-stated Two (DeclaresIndividual a) at h = refl
 stated version (States (SubClassOf c d)) at h = sub_class version c d at
 stated version (States (EquivalentClasses cs)) at h = equivalent version cs at h.operands
 stated version (States (DisjointClasses cs)) at h = disjoint version cs at h.operands
@@ -159,18 +156,15 @@ stated version (States (SubPropertyOf rs s)) at h = chain version rs s at
 stated version (States (EquivalentProperties rs)) at h = equivalent_properties version rs at h.operands
 stated version (States (PropertyDomain r c)) at h = domain version r c at
 stated One (States (TransitiveProperty r)) at h = refl
-stated Two (States (TransitiveProperty r)) at h = refl
 stated One (States (ReflexiveProperty r)) at h = refl
-stated Two (States (ReflexiveProperty r)) at h = refl
 stated version (States (ClassAssertion c a)) at h = assertion version c a at
 stated One (States (PropertyAssertion r a b)) at h = refl
-stated Two (States (PropertyAssertion r a b)) at h = refl
 stated One (States (SameIndividuals xs)) at h = absurd (false≢true h.taken)
 stated Two (States (SameIndividuals xs)) at h = same xs at h.operands
 stated One (States (DifferentIndividuals xs)) at h = absurd (false≢true h.taken)
 stated Two (States (DifferentIndividuals xs)) at h = different xs at h.operands
 stated One (States (NegativePropertyAssertion r a b)) at h = absurd (false≢true h.taken)
-stated Two (States (NegativePropertyAssertion r a b)) at h = refl
+stated _ _ at h = refl
 
 -- what the trees of statements state are the statements
 pub all_stated : (version : Version) (ss : List Statement) (at : ℕ) → AllWritable version ss → statements version (lines_trees at (statement_terms ss)) ≡ ss

@@ -3,9 +3,9 @@ use Rattle.std.proofs.Common.{◌≡◌, ℕ, List, [], ◌∷◌, ◌++◌, map
 use Rattle.std.specs.Prelude.{codes}
 use Rattle.std.specs.List.{flat_map, join_by}
 use Rattle.std.proofs.lemmas.List.{append-nil}
-use Rattle.axioms.specs.Axiom.{Axiom, SubClassOf, EquivalentClasses, DisjointClasses, SubPropertyOf, EquivalentProperties, PropertyDomain, TransitiveProperty, ReflexiveProperty, ClassAssertion, PropertyAssertion, SameIndividuals, DifferentIndividuals, NegativePropertyAssertion}
+use Rattle.axioms.specs.Axiom.{Axiom, SubClassOf, EquivalentClasses, DisjointClasses, SubPropertyOf, EquivalentProperties, PropertyDomain, ClassAssertion, SameIndividuals, DifferentIndividuals}
 use Rattle.axioms.specs.Expression.{ClassExpression, Operands, Named, Intersection, SomeValues, Pair, Before, Iri}
-use Rattle.axioms.specs.Numbering.{Statement, DeclaresClass, DeclaresProperty, DeclaresIndividual, States}
+use Rattle.axioms.specs.Numbering.{Statement, States}
 use Rattle.answer_texts.specs.Axioms.{axiom_text, chain_text}
 use Rattle.answer_texts.specs.Names.{name_text, expression_text, operands_text}
 use Rattle.statements_text.specs.Texts.{statement_text, statement_line, document_text}
@@ -67,19 +67,14 @@ same_axiom (DisjointClasses cs) = let a = same_classes cs in rw a refl
 same_axiom (SubPropertyOf chain s) = let a = same_chain chain in rw a refl
 same_axiom (EquivalentProperties rs) = let a = same_words rs in rw a refl
 same_axiom (PropertyDomain r c) = let a = same_class c in rw a refl
-same_axiom (TransitiveProperty r) = refl
-same_axiom (ReflexiveProperty r) = refl
 same_axiom (ClassAssertion c a) = let e = same_class c in rw e refl
-same_axiom (PropertyAssertion r a b) = refl
 same_axiom (SameIndividuals xs) = let a = same_words xs in rw a refl
 same_axiom (DifferentIndividuals xs) = let a = same_words xs in rw a refl
-same_axiom (NegativePropertyAssertion r a b) = refl
+same_axiom _ = refl
 
 pub same_statement : (s : Statement) → statement_text s ≡ term_text (statement_term s)
-same_statement (DeclaresClass c) = refl
-same_statement (DeclaresProperty r) = refl
-same_statement (DeclaresIndividual a) = refl
 same_statement (States a) = same_axiom a
+same_statement _ = refl
 
 same_lines : (ss : List Statement) → flat_map statement_line ss ≡ lines_text (statement_terms ss)
 same_lines [] = refl

@@ -1,7 +1,7 @@
 -- The texts of lists, one element on.
-use Rattle.std.proofs.Common.{◌≡◌, ℕ, ◌+◌, ◌<◌, Bool, true, false, cond, List, [], ◌∷◌, ◌++◌, length, get_or, drop, sym, ap, ◌∙◌, refl}
+use Rattle.std.proofs.Common.{◌≡◌, ℕ, ◌+◌, ◌<◌, Bool, true, false, cond, List, [], ◌∷◌, ◌++◌, length, get_or, drop, sym, ap, ◌∙◌}
 use Rattle.std.proofs.lemmas.List.{at_drop_more, append_assoc}
-use Rattle.std.specs.List.{filter, flat_map, list_any}
+use Rattle.std.specs.List.{list_any}
 use Rattle.axioms.specs.Ontology.{name_at}
 use Rattle.taxonomy.specs.Texts.{firsts, is_same, listed, bracketed}
 
@@ -24,14 +24,3 @@ listed-more names lead between ns i l = at_drop_more (listed names lead between)
 -- two writes in a row
 pub written-more : (out lead name rest : List ℕ) → ((out ++ lead) ++ name) ++ rest ≡ out ++ (lead ++ name ++ rest)
 written-more out lead name rest = simp append_assoc
-
-pub shown-more : (f : ℕ → List ℕ) (p : ℕ → Bool) (gs : List ℕ) (i : ℕ) → i < length gs → flat_map f (filter p (drop i gs)) ≡ cond (p (get_or gs i 0)) (f (get_or gs i 0)) [] ++ flat_map f (filter p (drop (i + 1) gs))
-shown-more f p gs i l =
-    at_drop_more (λ xs. flat_map f (filter p xs)) gs i 0 l ∙ by_test (p (get_or gs i 0)) (get_or gs i 0) (filter p (drop (i + 1) gs))
-  where
-    by_test : (b : Bool) (g : ℕ) (rest : List ℕ) → flat_map f (cond b (g ∷ rest) rest) ≡ cond b (f g) [] ++ flat_map f rest
-    by_test true g rest = refl
-    by_test false g rest = refl
-
-pub written-four : (out a b c d o1 o2 o3 o4 : List ℕ) → o1 ≡ out ++ a → o2 ≡ o1 ++ b → o3 ≡ o2 ++ c → o4 ≡ o3 ++ d → o4 ≡ out ++ (a ++ b ++ c ++ d)
-written-four out a b c d o1 o2 o3 o4 e1 e2 e3 e4 = rw (e4, e3, e2, e1) (simp append_assoc)
