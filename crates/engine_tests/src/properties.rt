@@ -95,9 +95,11 @@ fn reflexivity_through_a_hierarchy(rt: HostRuntime) -> Result<(), Fail> {
 /// `SubObjectPropertyOf(ObjectPropertyChain(r s t) u)`, by the prefix `r s`.
 const LONG_CHAIN: &[Form] = &[Form::N6(R, S, PREFIX), Form::N6(PREFIX, T, U)];
 
-/// Whether r begins the prefix, and that the chain.
+/// Whether there are four properties and a prefix, r begins the prefix, and that the chain.
 fn is_long_chain(closure: &PropertyClosure) -> bool {
-    closure.chains_from(R) == [(S, PREFIX)].as_slice()
+    closure.properties() == 4
+        && closure.partials() == 1
+        && closure.chains_from(R) == [(S, PREFIX)].as_slice()
         && closure.chains_from(PREFIX) == [(T, U)].as_slice()
         && closure.chains_from(S).is_empty()
         && closure.supers(PREFIX) == [PREFIX].as_slice()
@@ -172,9 +174,11 @@ fn grown(alloc: Global) -> Result<PropertyClosure, Memory> {
     Ok(closure)
 }
 
-/// Whether s is above r and reflexive, and u and the prefix are only above themselves.
+/// Whether there are four properties and a prefix, s is above r and reflexive, and u and the prefix are only above themselves.
 fn has_grown(closure: &PropertyClosure) -> bool {
-    closure.supers(R) == [R, S].as_slice()
+    closure.properties() == 4
+        && closure.partials() == 1
+        && closure.supers(R) == [R, S].as_slice()
         && closure.is_reflexive(S)
         && closure.supers(U) == [U].as_slice()
         && !closure.is_reflexive(U)
