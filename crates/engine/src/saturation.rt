@@ -61,7 +61,7 @@ impl Saturation {
     }
 
     /// Serves all facts that are pending, and those that come of them, as long as there are at most `max_facts`. Where none is
-    /// pending, that takes no memory.
+    /// pending, that needs no memory.
     ///
     /// # Errors
     ///

@@ -8,8 +8,8 @@ ghost use Rattle.std.specs.Prelude.{◌≡◌, []};
 use crate::adding::{add, add_lists, add_with_lists, different};
 use crate::lists::{Refusing, Scripted};
 use crate::problems::{
-    ALL_GO_ON, Born, CLASSES_MADE_DISJOINT, ONE_ENDS, PROBLEMS, Problem, SUBCLASS_STATED_AGAIN,
-    SUBCLASSES_IN_A_CIRCLE, SUBPROPERTY_COMES_LAST, TWO_SUBCLASSES,
+    ALL_GO_ON, Born, CLASSES_MADE_DISJOINT, FRESH_SUBPROPERTIES_COME_LAST, ONE_ENDS, PROBLEMS,
+    Problem, SUBCLASS_STATED_AGAIN, SUBCLASSES_IN_A_CIRCLE, SUBPROPERTY_COMES_LAST, TWO_SUBCLASSES,
 };
 use acts::{ALL, ALL_LISTS, Act, SCRIPTS};
 use axioms::Memory;
@@ -406,6 +406,47 @@ fn edges_wait_for_a_property_above(rt: HostRuntime) -> Result<(), Fail> {
     assert!(rt; fits(alloc, seed, &SUBPROPERTY_COMES_LAST));
     assert!(rt; in_any_order(alloc, seed, &SUBPROPERTY_COMES_LAST, &[], BELOW));
     assert!(rt; with_each_push_refused(alloc, seed, &SUBPROPERTY_COMES_LAST, &[], BELOW));
+    Ok(())
+}
+
+/// Two properties that no form spoke of are put below another one: no edge waits again. Then comes an edge by the lower one.
+const FRESH_BELOW: &[Act] = &[
+    Act::Extend(3, 3),
+    Act::Run,
+    Act::Serves(9),
+    Act::Extend(2, 0),
+    Act::Serves(9),
+    Act::Run,
+    Act::Serves(9),
+    Act::Extend(1, 0),
+    Act::Serves(9),
+    Act::Run,
+    Act::Serves(13),
+];
+
+#[test]
+fn no_edge_waits_for_a_fresh_property_below(rt: HostRuntime) -> Result<(), Fail> {
+    let alloc = rt.alloc();
+    let seed = RandomState::new(&rt)?;
+    assert!(rt; fits(alloc, seed, &FRESH_SUBPROPERTIES_COME_LAST));
+    assert!(rt;
+        in_any_order(
+            alloc,
+            seed,
+            &FRESH_SUBPROPERTIES_COME_LAST,
+            &[],
+            FRESH_BELOW
+        )
+    );
+    assert!(rt;
+        with_each_push_refused(
+            alloc,
+            seed,
+            &FRESH_SUBPROPERTIES_COME_LAST,
+            &[],
+            FRESH_BELOW
+        )
+    );
     Ok(())
 }
 

@@ -2,7 +2,7 @@
 
 use crate::numbered::{
     C0, C1, C2, C3, C4, C5, C6, C7, C8, EDGES_R, EDGES_S, EDGES_T, EDGES_U, IN0, IN1, IN2, IN3,
-    IN4, IN5, IN7, IND0, IND1, IND2, IND4, R, S, U,
+    IN4, IN5, IN7, IND0, IND1, IND2, IND3, IND4, R, S, T, U,
 };
 use axioms::{ExprId, IndId};
 use facts::{Context, Fact};
@@ -342,6 +342,24 @@ pub(crate) const SUBPROPERTY_COMES_LAST: Problem = Problem {
     roots: &[IN0, IN1, IND0],
     facts: 13,
     born: None,
+};
+
+/// Three individuals by the transitive r; then t below s and s below r, where no form spoke of s or t; and then a fourth individual by t:
+/// 5 edges by r, and one by t.
+pub(crate) const FRESH_SUBPROPERTIES_COME_LAST: Problem = Problem {
+    name: "fresh_subproperties_come_last",
+    forms: &[
+        Form::N6(EDGES_R, EDGES_R, EDGES_R),
+        Form::N9(IndId(0), R, IndId(1)),
+        Form::N9(IndId(1), R, IndId(2)),
+        Form::N5(T, S),
+        Form::N5(S, R),
+        Form::N9(IndId(2), T, IndId(3)),
+    ],
+    different: &[],
+    roots: &[IN0, IN1, IND0],
+    facts: 13,
+    born: Some(Born(Fact::Edge(IND0, EDGES_R, IND3), 9, 0, 2)),
 };
 
 /// A below B, and then B below A.

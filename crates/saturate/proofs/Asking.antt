@@ -1,5 +1,5 @@
 -- Which forms ask for a fact, by the keys of forms.
-use Rattle.std.proofs.Common.{◌≡◌, ◌↔◌, ℕ, ◌⊎◌, inl, inr, ⊎_elim, Bool, true, false, not, eqb, Option, List, [], ◌∷◌, length, slice_get, arith, Some, Contains, refl, sym, ap, subst, ◌∙◌}
+use Rattle.std.proofs.Common.{◌≡◌, ◌↔◌, ℕ, ◌⊎◌, inl, inr, ⊎_elim, Bool, true, false, not, eqb, Option, List, [], ◌∷◌, length, arith, Some, Contains, refl, sym, ap, subst, ◌∙◌}
 use Rattle.std.proofs.lemmas.Bool.{false≢true}
 use Rattle.std.proofs.lemmas.Option.{none-some, same_Some}
 use Rattle.axioms.specs.declared.ids.IndId.{IndId}
@@ -19,7 +19,7 @@ use Rattle.facts.specs.Closure.{Problem, thing}
 use Rattle.indexes.specs.declared.keys.Key.TheVariants.{Whole}
 use Rattle.indexes.specs.Keys.{class_key, property_key, individual_key, by_kind, by_alone, by_first, by_filler, by_chain, by_plain, by_linked_first, by_linked_second, by_denied, by_target}
 use Rattle.indexes.specs.FormsUnderKeys.{IsUnder}
-use Rattle.saturate.specs.Requests.{Asks, AsksByClass, BeginsWith, Denies, HasForm, IsAsked, IsAskedByForm, IsAskedByList, IsOfNamed, IsOfNamedClass, LeaveEdges, ListAsks, NamesAbove, NamesClass, NamesIndividual}
+use Rattle.saturate.specs.Requests.{Asks, BeginsWith, Denies, HasForm, IsAsked, IsAskedByForm, IsAskedByList, IsOfNamed, IsOfNamedClass, LeaveEdges, ListAsks, NamesAbove, NamesClass, NamesIndividual}
 use Rattle.inference.proofs.Lists.{Contains-from_slice_get, slice_get-from_Contains}
 
 -- a list that is not empty has some number
@@ -400,12 +400,12 @@ asks_named forms (N10 _ _) (Edge x p y) names = absurd names
 asks_named forms (N12 _ _ _) (In c x) names = absurd names
 asks_named forms (N12 _ _ _) (Edge x p y) names = absurd names
 
--- where there is no list, and each form asks for such facts alone
-pub asked_by_class : (all : List Form) (added : Problem) (f : Fact) → ((n : ℕ) (form : Form) → slice_get added.forms n ≡ Some form → AsksByClass form) → length added.apart.classes ≡ 0 → IsOfNamedClass added.forms f ↔ IsAsked all added f
+-- where there is no list, and each form that asks for the fact names its class
+pub asked_by_class : (all : List Form) (added : Problem) (f : Fact) → ((form : Form) → Contains added.forms form → Asks all form f → IsOfNamed form f) → length added.apart.classes ≡ 0 → IsOfNamedClass added.forms f ↔ IsAsked all added f
 asked_by_class all added f each lists = (
   λ named. inl (asked_as (λ form. IsOfNamed form f) (λ form. Asks all form f) added.forms (λ form is. asks_named all form f is) named),
   λ asked. ⊎_elim
-      (λ (w : IsAskedByForm all added.forms f). let at = slice_get-from_Contains added.forms w.0 w.1 in (w.0, w.1, each at.0 w.0 at.1 all f w.2))
+      (λ (w : IsAskedByForm all added.forms f). (w.0, w.1, each w.0 w.1 w.2))
       (λ (w : IsAskedByList added.apart.classes f). absurd (omega (arith, w.1.1, lists)))
       asked,
 )

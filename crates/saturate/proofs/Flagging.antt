@@ -223,11 +223,11 @@ asked_as_new before now added forms lists f = (
   λ asked. ⊎_elim (λ w. inl ((forms f).1 w)) (λ w. inr (w.0, (lists w.0).1 w.1, w.2)) asked,
 )
 
--- flags of facts of one kind are flags of those of another, where a fact is of one exactly where it is of the other
-pub flagged_too : (P Q : Fact → Type 0) (facts : List Fact) (flags : List Bool) (n : ℕ) → ((f : Fact) → P f ↔ Q f) → IsFlagged P facts flags n → IsFlagged Q facts flags n
+-- flags of facts of one kind are flags of those of another, where the fact is of one exactly where it is of the other
+pub flagged_too : (P Q : Fact → Type 0) (facts : List Fact) (flags : List Bool) (n : ℕ) → ((f : Fact) → slice_get facts n ≡ Some f → P f ↔ Q f) → IsFlagged P facts flags n → IsFlagged Q facts flags n
 flagged_too P Q facts flags n same flagged = record {
-  yes = λ e. let h = flagged.yes e in (h.0, h.1, (same h.0).0 h.2);
-  no = λ e h. flagged.no e (h.0, h.1, (same h.0).1 h.2);
+  yes = λ e. let h = flagged.yes e in (h.0, h.1, (same h.0 h.1).0 h.2);
+  no = λ e h. flagged.no e (h.0, h.1, (same h.0 h.1).1 h.2);
 }
 
 pub not_flagged : (b : Bool) → not b ≡ true → b ≡ false

@@ -6,6 +6,7 @@ pub mod Listing
 pub mod Exact
 pub mod Counting
 pub mod Asking
+pub mod Fresh
 pub mod Entering
 pub mod Extending
 pub mod Naming

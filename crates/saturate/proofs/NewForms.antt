@@ -6,9 +6,14 @@ use Rattle.std.proofs.lemmas.List.Elements.{Contains-append_left, Contains-push,
 use Rattle.std.proofs.lemmas.Option.{slice_get_within}
 use Rattle.lemmas.proofs.Places.{take_slice_get}
 use Rattle.normal_forms.specs.declared.forms.Form.{Form}
+use Rattle.normal_forms.specs.declared.forms.Form.TheVariants.{N5}
+use Rattle.normal_forms.specs.declared.forms.PropId2.TheVariants.{Property}
+use Rattle.normal_forms.specs.Properties.{same}
+use Rattle.facts.specs.declared.contexts.Context.TheVariants.{Individual}
 use Rattle.facts.specs.declared.contexts.Fact.{Fact}
+use Rattle.facts.specs.declared.contexts.Fact.TheVariants.{Edge}
 use Rattle.inference.proofs.Lists.{Contains-from_slice_get, one_value, slice_get-from_Contains}
-use Rattle.saturate.specs.Requests.{AsksNothing, IsAskedByForm, NewFormAsks, IsNew}
+use Rattle.saturate.specs.Requests.{AsksNothing, HasNewBelow, IsAskedByForm, NewFormAsks, IsNew}
 
 -- of the forms from one number on and before another each that is new and may ask for facts is in the list
 abbrev pub AreListed : List Form → List Form → ℕ → ℕ → List Form → Type 0
@@ -41,15 +46,27 @@ is_added before now from n form front at is_new = ⊎_elim
     (λ high. high)
     (cases_lt n from)
 
--- so those that are listed ask for the same facts as those that are new
+-- so each that is new and may ask for facts is in the list of all
+all_listed : (before now new : List Form) (from to : ℕ) → take from now ≡ before → length now ≤ to → AreListed before now from to new
+    → (form : Form) → IsNew before now form → Contains new form ⊎ AsksNothing form
+all_listed before now new from to front long listed form is_new =
+    let at = slice_get-from_Contains now form is_new.0 in
+    listed at.0 (is_added before now from at.0 form front at.1 is_new) (omega (arith, slice_get_within now at.0 form at.1, long)) form at.1 is_new
+
+-- and those that are listed ask for the same facts as those that are new
 pub ask_as_new : (before now new : List Form) (from to : ℕ) → take from now ≡ before → length now ≤ to → ((form : Form) → Contains new form → IsNew before now form) → AreListed before now from to new
     → (f : Fact) → IsAskedByForm now new f ↔ NewFormAsks before now f
 ask_as_new before now new from to front long each listed f = (
   λ asked. (asked.0, each asked.0 asked.1, asked.2),
-  λ asked.
-      let at = slice_get-from_Contains now asked.0 asked.1.0 in
-      ⊎_elim
+  λ asked. ⊎_elim
       (λ there. (asked.0, there, asked.2))
       (λ nothing. absurd (nothing now f asked.2))
-      (listed at.0 (is_added before now from at.0 asked.0 front at.1 asked.1) (omega (arith, slice_get_within now at.0 asked.0 at.1, long)) asked.0 at.1 asked.1),
+      (all_listed before now new from to front long listed asked.0 asked.1),
 )
+
+-- one that puts a property below another asks for the edges by it, so it is listed
+pub has_below : (before now new : List Form) (from to : ℕ) → take from now ≡ before → length now ≤ to → AreListed before now from to new → HasNewBelow before now new
+has_below before now new from to front long listed r s is_new = ⊎_elim
+    (λ there. there)
+    (λ nothing. absurd (nothing now (Edge (Individual (record { 0 = 0 })) (Property r) (Individual (record { 0 = 0 }))) same))
+    (all_listed before now new from to front long listed (N5 r s) is_new)

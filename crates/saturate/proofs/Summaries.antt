@@ -1,12 +1,12 @@
 -- What forms come to is as it was where those that are added say nothing new of it.
-use Rattle.std.proofs.Common.{◌≡◌, ◌↔◌, ℕ, zero, suc, ◌+◌, ◌<◌, ◌≤◌, ◌⊎◌, inl, inr, ⊎_elim, Bool, true, false, true≢false, IsTrue, not, eqb, eqb-true, cond, List, [], ◌∷◌, ◌++◌, length, take, drop, slice_get, Option, Some, None, Contains, refl, sym, ap, ap₂, ◌∙◌, subst, append-nil, length-append, arith}
+use Rattle.std.proofs.Common.{◌≡◌, ◌↔◌, ℕ, zero, suc, ◌≤◌, ◌⊎◌, inl, inr, ⊎_elim, Bool, true, false, true≢false, IsTrue, not, eqb, eqb-true, cond, List, [], ◌∷◌, ◌++◌, length, take, drop, slice_get, Option, Some, None, Contains, refl, sym, ap, ap₂, ◌∙◌, subst, append-nil, length-append, arith}
 use Rattle.std.proofs.lemmas.Bool.{cases_lt, eqb-false}
 use Rattle.std.proofs.lemmas.List.{take-append-drop}
-use Rattle.std.proofs.lemmas.List.Elements.{All-contains, Contains-append_cases, filter-append}
+use Rattle.std.proofs.lemmas.List.Elements.{Contains-append_cases, filter-append}
 use Rattle.std.proofs.lemmas.Option.{none-some, slice_get_past, slice_get_within}
 use Rattle.std.specs.List.{All, filter}
 use Rattle.std.specs.Option.{option_and_then}
-use Rattle.lemmas.proofs.Members.{Contains-first, Contains-later, Contains-from_slice_get, slice_get-from_Contains}
+use Rattle.lemmas.proofs.Members.{Contains-first, Contains-later, Contains-from_slice_get}
 use Rattle.lemmas.proofs.Places.{slice_get_there}
 use Rattle.axioms.specs.declared.ids.PropId.{PropId}
 use Rattle.normal_forms.specs.declared.forms.Class2.{Class2}
@@ -14,7 +14,6 @@ use Rattle.normal_forms.specs.declared.forms.Form.{Form}
 use Rattle.normal_forms.specs.declared.forms.Form.TheVariants.{N1, N2, N3, N4, N5, N6, N7, N8, N9, N10, N12}
 use Rattle.normal_forms.specs.declared.forms.PropId2.{PropId2}
 use Rattle.normal_forms.specs.declared.forms.PropId2.TheVariants.{Property, Partial}
-use Rattle.normal_forms.proofs.Filters.{kept}
 use Rattle.normal_forms.specs.Properties.{IsAtOrBelow, IsPropertyFormOf, same, step, is_property_form, property_forms}
 use Rattle.property_closure.specs.PropertyClosures.{Known, Has}
 use Rattle.indexes.specs.declared.keys.Key.{Key}
@@ -33,6 +32,7 @@ use Rattle.saturate.specs.declared.counts.Counts.{Counts}
 use Rattle.saturate.specs.Counts.{HasNames, IsMore}
 use Rattle.saturate.specs.Growth.{EachFrom}
 use Rattle.saturate.specs.Summaries.{LeavesClosure, LeavesGroups, LeavesJoins}
+use Rattle.saturate.proofs.Fresh.{upper_there}
 use Rattle.saturate.proofs.Naming.{property_stays}
 use Rattle.saturate.proofs.Staying.{added}
 
@@ -189,17 +189,11 @@ module _ (forms more : List Form) (closure : Known) (joins : Joins) (plain : (fo
   IsMasked (Property r) = HasMask joins r.0
   IsMasked (Partial n) = ⊥
 
-  -- what a form of properties names the closure has
-  named : (r s : PropId) → Contains forms (N5 r s) → Has closure (Property s)
-  named r s there =
-      let there_too : Contains closure.forms (N5 r s) = subst (λ (list : List Form). Contains list (N5 r s)) (sym is.same) (kept is_property_form forms (N5 r s) there refl) in
-      (All-contains (IsPropertyFormOf closure.properties closure.partials) closure.forms (N5 r s) within there_too).1
-
   -- no path to a property that is not there begins with one that has a mask
   none_leads : (p : PropId2) (s t : PropId) → IsMasked p → IsAtOrBelow forms p (Property s) → LeavesJoins closure joins (N5 s t) → ⊥
   none_leads p s t masked path leaves = ⊎_elim
       (λ e. leaves.0 (subst IsMasked e masked))
-      (λ w. leaves.1 (named w.0 s w.1))
+      (λ w. leaves.1 (upper_there forms closure is within w.0 s w.1))
       (last_step forms p (Property s) s refl path)
 
   -- so no path that begins there is new

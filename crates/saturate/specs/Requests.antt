@@ -3,6 +3,7 @@ use Rattle.std.specs.Prelude.{◌≡◌, ◌⊎◌, ◌↔◌, ◌<◌, ℕ, Boo
 use Rattle.std.specs.List.{Contains}
 use Rattle.axioms.specs.declared.ids.ExprId.{ExprId}
 use Rattle.axioms.specs.declared.ids.IndId.{IndId}
+use Rattle.axioms.specs.declared.ids.PropId.{PropId}
 use Rattle.normal_forms.specs.declared.apart.ApartLists.{ApartLists}
 use Rattle.normal_forms.specs.declared.forms.Form.{Form}
 use Rattle.normal_forms.specs.declared.forms.Form.TheVariants.{N1, N2, N3, N4, N5, N6, N7, N10, N12}
@@ -12,7 +13,7 @@ use Rattle.number_sets.specs.Members.{has}
 use Rattle.normal_forms.specs.declared.forms.PropId2.{PropId2}
 use Rattle.normal_forms.specs.declared.forms.PropId2.TheVariants.{Property}
 use Rattle.normal_forms.specs.Properties.{IsAtOrBelow}
-use Rattle.property_closure.specs.PropertyClosures.{Known}
+use Rattle.property_closure.specs.PropertyClosures.{Known, Has}
 use Rattle.facts.specs.declared.contexts.Context.{Context}
 use Rattle.facts.specs.declared.contexts.Context.TheVariants.{Individual}
 use Rattle.facts.specs.declared.contexts.Fact.{Fact}
@@ -20,6 +21,7 @@ use Rattle.facts.specs.declared.contexts.Fact.TheVariants.{In, Edge}
 use Rattle.facts.specs.Closure.{Problem, thing}
 use Rattle.indexes.specs.Apart.{IsInList}
 use Rattle.inference.specs.PropertyClosures.{IsClosureOf}
+use Rattle.inference.specs.Visits.{HasProperty}
 
 -- one of the two individuals
 abbrev pub IsOneOf : IndId → IndId → Context → Type 0
@@ -93,6 +95,11 @@ IsOfNamed form (Edge x p y) = ⊥
 abbrev pub AsksByClass : Form → Type 0
 AsksByClass form = (forms : List Form) (f : Fact) → Asks forms form f → IsOfNamed form f
 
+-- the form puts a property that the closure does not have below another
+abbrev pub PutsFreshBelow : Known → Form → Type 0
+PutsFreshBelow closure (N5 r s) = ¬ Has closure (Property r)
+PutsFreshBelow closure _ = ⊥
+
 -- none of the forms asks for an edge
 abbrev pub LeaveEdges : List Form → Type 0
 LeaveEdges forms = (form : Form) → Contains forms form → AsksForNoEdge form
@@ -138,6 +145,15 @@ problem_of forms apart = record { forms = forms; apart = apart; roots = [] }
 -- one of the added forms asks for the fact, by all forms, or one of the added lists does
 abbrev pub IsAsked : List Form → Problem → Fact → Type 0
 IsAsked all added f = IsAskedByForm all added.forms f ⊎ IsAskedByList added.apart.classes f
+
+-- each new form that puts a property below another is one of the added
+abbrev pub HasNewBelow : List Form → List Form → List Form → Type 0
+HasNewBelow before now added = (r s : PropId) → IsNew before now (N5 r s) → Contains added (N5 r s)
+
+-- of the facts whose edges are by properties that the closure of the earlier forms has, those that the added ask for are those of the classes
+-- that the added forms name
+abbrev pub AskByClass : Known → Problem → Type 0
+AskByClass closure added = (before now : List Form) → IsClosureOf before closure → HasNewBelow before now added.forms → (f : Fact) → HasProperty closure f → IsOfNamedClass added.forms f ↔ IsAsked now added f
 
 -- a new form asks for the fact, by all that are there now
 abbrev pub NewFormAsks : List Form → List Form → Fact → Type 0

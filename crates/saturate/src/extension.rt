@@ -30,7 +30,7 @@ use work_list::WorkList;
 /// For how many classes the facts of each are sought, rather than each fact looked at. It decides nothing.
 const FEW_CLASSES: usize = 16;
 
-/// Of each fact whether one of the added forms or lists asks for it, by a look at each.
+/// Of each fact whether one of the forms or lists of the added problem asks for it.
 fn looked_at_each(
     alloc: Global,
     ground: &Ground,
@@ -54,7 +54,7 @@ fn looked_at_each(
     Ok(flags)
 }
 
-/// Of each fact whether one of the added forms or lists asks for it.
+/// Of each fact whether one of the added forms or lists asks for it, by a look at each.
 fn flagged(
     alloc: Global,
     ground: &Ground,
@@ -66,9 +66,6 @@ fn flagged(
     ensures few { IfOk result (λ flags. length flags ≤ length facts.now.facts) }
     ensures flags { IfOk result (λ flags. (n : ℕ) → n < length facts.now.facts → IsFlagged (IsAsked ground.now.forms (problem_of forms apart)) facts.now.facts flags n) }
 {
-    if ask_by_class(&forms, &apart) && sought(&forms, facts) <= FEW_CLASSES {
-        return flags_of_named(alloc, &forms, facts);
-    }
     let added = IndexedProblem::new(alloc, forms, apart, Vec::new(alloc))?;
     let flags = looked_at_each(alloc, ground, &added, facts);
     drop(added);
@@ -78,7 +75,7 @@ fn flagged(
 /// Of the facts that are served whether a new one of the forms from that number on, or a new list, asks for them.
 fn flags_of<W: WorkList>(
     alloc: Global,
-    earlier: &IndexedProblem,
+    earlier: &Ground,
     ground: &Ground,
     from: usize,
     facts: &KnownFacts,
@@ -86,6 +83,7 @@ fn flags_of<W: WorkList>(
 ) -> Result<Flags, Memory>
     requires earlier { take from ground.now.forms ≡ earlier.now.forms }
     requires lists { AreContinuedBy earlier.now.apart ground.now.apart }
+    requires before { IsDerived earlier.now facts.now }
     requires derived { IsDerived ground.now facts.now }
     requires served { (n : ℕ) → Contains queue.now.served n → n < length facts.now.facts }
     ensures few { IfOk result (λ flags. length flags ≤ length facts.now.facts) }
@@ -94,8 +92,13 @@ fn flags_of<W: WorkList>(
     if queue.served() == 0 {
         return Flags::new(alloc, 0);
     }
-    let forms = new_forms(alloc, earlier, ground.problem().forms(), from)?;
-    let apart = new_lists(alloc, earlier.apart(), ground.problem().apart())?;
+    let before = earlier.problem();
+    let now = ground.problem();
+    let forms = new_forms(alloc, before, now.forms(), from)?;
+    let apart = new_lists(alloc, before.apart(), now.apart())?;
+    if ask_by_class(earlier.closure(), &forms, &apart) && sought(&forms, facts) <= FEW_CLASSES {
+        return flags_of_named(alloc, &forms, facts);
+    }
     flagged(alloc, ground, forms, apart, facts)
 }
 
@@ -377,7 +380,7 @@ fn listed_still<W: WorkList>(
 /// refused.
 pub(crate) fn carry_on<W: WorkList>(
     alloc: Global,
-    earlier: &IndexedProblem,
+    earlier: &Ground,
     ground: &Ground,
     from: usize,
     facts: &mut KnownFacts,
@@ -386,6 +389,7 @@ pub(crate) fn carry_on<W: WorkList>(
 ) -> Result<(), Memory>
     requires earlier { take from ground.now.forms ≡ earlier.now.forms }
     requires grown { IsGrownFrom from earlier.now ground.now }
+    requires before { IsDerived earlier.now facts.old }
     requires derived { IsDerived ground.now facts.old }
     requires complete { IsCompleteUpToRedundancy earlier.now facts.old queue.old.served }
     requires turns { HaveTurns facts.old.facts queue.old }
@@ -397,7 +401,7 @@ pub(crate) fn carry_on<W: WorkList>(
     let flags = flags_of(alloc, earlier, ground, from, facts, queue)?;
     let few = queue.served().saturating_mul(LOOKS_FOR_A_FACT);
     let all = ground.problem().forms();
-    let entered = entered_roots(earlier, all, from);
+    let entered = entered_roots(earlier.problem(), all, from);
     let leaves = leave_lists(all, from);
     if leaves && looked_at(index, facts, &flags) < few {
         return listed_still(alloc, ground, facts, queue, index, &flags, entered);

@@ -1,38 +1,42 @@
 //! Facts of the classes that forms name, flagged without a look at each fact.
-ghost use Rattle.facts.specs.declared.contexts.Fact.{Fact as Fact2};
-ghost use Rattle.normal_forms.specs.declared.forms.Form.{Form as Form2};
 ghost use Rattle.saturate.specs.Flags.{AreFlaggedToo, IsFlagged};
-ghost use Rattle.saturate.specs.Requests.{AsksByClass, IsAsked, IsOfClass, IsOfNamed, IsOfNamedClass, IsSuchAt, problem_of};
-ghost use Rattle.std.specs.Prelude.{◌≡◌, ◌↔◌, ◌<◌, ◌≤◌, ℕ, IfOk, IsTrue, List, OnOk, length, true};
+ghost use Rattle.saturate.specs.Requests.{AskByClass, AsksByClass, IsOfClass, IsOfNamed, IsOfNamedClass, IsSuchAt, PutsFreshBelow, problem_of};
+ghost use Rattle.std.specs.Prelude.{◌≡◌, ◌⊎◌, ◌↔◌, ◌<◌, ◌≤◌, ℕ, IfOk, IsTrue, OnOk, length, true};
 
 use crate::flags::Flags;
 use crate::named_classes::class_named;
+use crate::summary::has;
 use axioms::Memory;
 use facts::Fact;
 use inference::KnownFacts;
 use normal_forms::{ApartLists, Class2, Form, FormList};
+use property_closure::PropertyClosure;
 use std::alloc::Global;
 
-/// Whether the form asks for no facts but those of a class that it names.
-fn asks_by_class(form: Form) -> bool
-    ensures { result ≡ true → AsksByClass form }
+/// Whether the form asks for no facts but those of a class that it names, or puts a property that the closure does not have below
+/// another.
+fn asks_by_class(closure: &PropertyClosure, form: Form) -> bool
+    ensures { result ≡ true → AsksByClass form ⊎ PutsFreshBelow closure.now form }
 {
     match form {
-        Form::N5(..) | Form::N6(..) | Form::N10(..) | Form::N12(..) => false,
+        Form::N5(lower, _) => !has(closure, lower),
+        Form::N6(..) | Form::N10(..) | Form::N12(..) => false,
         _ => true,
     }
 }
 
-/// Whether there is no added list of disjoint classes, and each added form asks for no facts but those of a class that it names: then these
-/// are all that are asked for.
-pub(crate) fn ask_by_class(forms: &FormList, apart: &ApartLists) -> bool
-    ensures { result ≡ true → (all : List Form2) (fact : Fact2) → IsOfNamedClass forms.now fact ↔ IsAsked all (problem_of forms.now apart.now) fact }
+/// Whether there is no added list of disjoint classes, and each added form asks for no facts but those of a class that it names, or puts
+/// a property that the closure of the earlier forms does not have below another: no edge is by it, so what the forms name is all that is
+/// asked for.
+pub(crate) fn ask_by_class(closure: &PropertyClosure, forms: &FormList, apart: &ApartLists) -> bool
+    ensures { result ≡ true → AskByClass closure.now (problem_of forms.now apart.now) }
 {
+    closure.well_formed();
     if apart.classes.len() > 0 {
         return false;
     }
     for number in 0..forms.len() {
-        if !asks_by_class(forms.at(number)) {
+        if !asks_by_class(closure, forms.at(number)) {
             return false;
         }
     }

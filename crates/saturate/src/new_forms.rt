@@ -1,6 +1,6 @@
 //! Which forms that are added are new.
 ghost use Rattle.facts.specs.declared.contexts.Fact.{Fact as Fact2};
-ghost use Rattle.saturate.specs.Requests.{AsksNothing, IsAskedByForm, NewFormAsks};
+ghost use Rattle.saturate.specs.Requests.{AsksNothing, HasNewBelow, IsAskedByForm, NewFormAsks};
 ghost use Rattle.std.specs.Prelude.{◌≡◌, ◌↔◌, Contains, IfOk, false, take, true};
 
 use crate::earlier_forms::EarlierForms;
@@ -32,7 +32,8 @@ pub(crate) fn new_forms(
     from: usize,
 ) -> Result<FormList, Memory>
     requires { take from forms.now ≡ earlier.now.forms }
-    ensures { IfOk result (λ new. (f : Fact2) → IsAskedByForm forms.now new f ↔ NewFormAsks earlier.now.forms forms.now f) }
+    ensures asked { IfOk result (λ new. (f : Fact2) → IsAskedByForm forms.now new f ↔ NewFormAsks earlier.now.forms forms.now f) }
+    ensures below { IfOk result (HasNewBelow earlier.now.forms forms.now) }
 {
     let earlier_forms = EarlierForms::of(alloc, earlier, forms.len().saturating_sub(from))?;
     let mut new = FormList::new(alloc);

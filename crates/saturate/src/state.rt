@@ -110,7 +110,7 @@ impl<W: WorkList> State<W> {
         let ground = self.ground.continued(self.alloc, all, apart, roots)?;
         match carry_on(
             self.alloc,
-            self.ground.problem(),
+            &self.ground,
             &ground,
             from,
             &mut self.facts,
@@ -161,7 +161,7 @@ impl<W: WorkList> State<W> {
         let ground = self.ground.continued(self.alloc, all, apart, roots)?;
         carry_on(
             self.alloc,
-            self.ground.problem(),
+            &self.ground,
             &ground,
             from,
             &mut facts,

@@ -35,7 +35,7 @@ fn closed(alloc: Global, forms: &FormList) -> Result<PropertyClosure, Memory>
 }
 
 /// Whether the closure has the property.
-fn has(closure: &PropertyClosure, property: PropId) -> bool
+pub(crate) fn has(closure: &PropertyClosure, property: PropId) -> bool
     ensures { IsTrue result ↔ Has closure.now (properties.Property property) }
 {
     !closure.supers(PropId2::Property(property)).is_empty()

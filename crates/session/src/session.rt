@@ -122,7 +122,7 @@ impl Session {
         }
     }
 
-    /// Finds out what follows, as long as that takes at most `max_facts` facts. Where nothing is pending, that takes no memory.
+    /// Finds out what follows, as long as that takes at most `max_facts` facts. Where nothing is pending, that needs no memory.
     ///
     /// # Errors
     ///

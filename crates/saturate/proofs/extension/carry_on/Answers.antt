@@ -30,9 +30,9 @@ returns-clause-served g c =
 pub listed_still-requires-clause-entered : goal.listed_still-requires-clause-entered
 listed_still-requires-clause-entered g c = λ many is.
     let w = c.entered_roots-entered.ensures.some many is in
-    rw w.0 (entered_then c.args.from c.requires.grown (rw (c.forms-all.ensures, c.problem.ensures) at w.1) c.requires.complete)
+    rw (w.0, c.problem-2.ensures) (entered_then c.args.from c.requires.grown (rw (c.forms-all.ensures, c.problem.ensures) at w.1) c.requires.complete)
 
 pub listed_anew-requires-clause-entered : goal.listed_anew-requires-clause-entered
 listed_anew-requires-clause-entered g c = λ many is.
     let w = c.entered_roots-entered.ensures.some many is in
-    rw w.0 (entered_then c.args.from c.requires.grown (rw (c.forms-all.ensures, c.problem.ensures) at w.1) c.requires.complete)
+    rw (w.0, c.problem-2.ensures) (entered_then c.args.from c.requires.grown (rw (c.forms-all.ensures, c.problem.ensures) at w.1) c.requires.complete)

@@ -1,6 +1,6 @@
 use Rattle.std.proofs.Common.{List, Contains, arith, inr, subst, sym}
 use Rattle.normal_forms.specs.declared.forms.Form.{Form}
-use Rattle.saturate.proofs.NewForms.{ask_as_new, listed_more, new_pushed, pushed_listed}
+use Rattle.saturate.proofs.NewForms.{ask_as_new, has_below, listed_more, new_pushed, pushed_listed}
 use Rattle.saturate.proofs.new_forms.new_forms.Goals as goal
 use Rattle.saturate.proofs.new_forms.new_forms.Goals.{then-may_ask_anew+in_ok-push, else-may_ask_anew}
 
@@ -24,5 +24,8 @@ loop-number-preserved c =
       })
     ]
 
-pub returns : goal.returns
-returns c = ask_as_new c.args.earlier.now.forms c.args.forms.now c.loop-number.new c.args.from c.loop-number.number c.requires (omega (arith, c.loop-number-test.false, c.len-number-end.ensures)) c.loop-number.invariant.each c.loop-number.invariant.listed
+pub returns-clause-asked : goal.returns-clause-asked
+returns-clause-asked c = ask_as_new c.args.earlier.now.forms c.args.forms.now c.loop-number.new c.args.from c.loop-number.number c.requires (omega (arith, c.loop-number-test.false, c.len-number-end.ensures)) c.loop-number.invariant.each c.loop-number.invariant.listed
+
+pub returns-clause-below : goal.returns-clause-below
+returns-clause-below c = has_below c.args.earlier.now.forms c.args.forms.now c.loop-number.new c.args.from c.loop-number.number c.requires (omega (arith, c.loop-number-test.false, c.len-number-end.ensures)) c.loop-number.invariant.listed
