@@ -1,4 +1,4 @@
-//! Ontologies that documents state, their saturations, sessions over documents, and interpretations that certificates list.
+//! Ontologies that documents state, their saturations, and interpretations that certificates list.
 ghost use Rattle.engine.specs.Saturations.{IsSound, IsUnasked, as_ended};
 ghost use Rattle.interpretation_spec.specs.NumberedInterpretation.{IsMadeFor};
 ghost use Rattle.std.specs.Prelude.{IfOk, IfSome};
@@ -6,11 +6,9 @@ ghost use Rattle.std.specs.Prelude.{IfOk, IfSome};
 use axioms::Ontology;
 use cert_check::interpretation_of;
 use certificate::read_certificate;
-use device::SliceSource;
 use engine::{Saturation, Stop};
 use interpretation_spec::Interpretation;
 use profile::{Version, read_bytes};
-use session::{Limits, Session};
 use std::alloc::Global;
 use std::hash::RandomState;
 use std::random::RandomSource;
@@ -42,17 +40,6 @@ pub(crate) fn saturated(
             Err(stop)
         }
     }
-}
-
-/// A session over the document, of which nothing was run.
-pub(crate) fn session_of(
-    alloc: Global,
-    state: RandomState,
-    limits: &Limits,
-    document: &str,
-) -> Option<Session> {
-    let mut source = SliceSource::new(document.as_bytes());
-    Session::open(alloc, &mut source, limits, state).ok()
 }
 
 /// The interpretation that the certificate lists.

@@ -1,2 +1,1 @@
-pub mod Circle
 pub mod Reading

@@ -3,20 +3,46 @@
 ghost use Rattle.engine.specs.Saturations.{IsFinished, IsSaturated, IsSound, IsUnasked, as_ended};
 ghost use Rattle.std.specs.Prelude.{IfOk};
 
-// Expressions have their numbers by where they stand first: the fifth is `ObjectSomeValuesFrom(:r :A)` in one document and C in
-// another, where `ObjectIntersectionOf(:B :C)` is the sixth.
-use crate::numbered::{
-    C0 as THING, C1 as NOTHING, C2 as A, C3 as B, C4 as C, C4 as SOME_A, C5 as B_AND_C, C6 as D,
-    EDGES_R as R, IN0 as IN_THING, IN1 as IN_NOTHING, IN2 as IN_A, IN3 as IN_B, IND0 as FIRST,
-    IND1 as SECOND,
-};
-use axioms::{ExprId, Ontology};
+use axioms::{ExprId, IndId, Ontology, PropId};
 use engine::{Closed, Finished, Saturation, Stop};
 use facts::{Context, Fact, FactId, StoredFact};
+use normal_forms::{Class2, PropId2};
 use profile::{Version, read_bytes};
 use std::alloc::Global;
 use std::hash::RandomState;
 use std::test::Fail;
+
+// Expressions have their numbers by where they stand first: the fifth is `ObjectSomeValuesFrom(:r :A)` in one document and C in
+// another, where `ObjectIntersectionOf(:B :C)` is the sixth.
+const THING: Class2 = Class2::Expr(ExprId(0));
+
+const NOTHING: Class2 = Class2::Expr(ExprId(1));
+
+const A: Class2 = Class2::Expr(ExprId(2));
+
+const B: Class2 = Class2::Expr(ExprId(3));
+
+const C: Class2 = Class2::Expr(ExprId(4));
+
+const SOME_A: Class2 = Class2::Expr(ExprId(4));
+
+const B_AND_C: Class2 = Class2::Expr(ExprId(5));
+
+const D: Class2 = Class2::Expr(ExprId(6));
+
+const R: PropId2 = PropId2::Property(PropId(0));
+
+const IN_THING: Context = Context::Expr(ExprId(0));
+
+const IN_NOTHING: Context = Context::Expr(ExprId(1));
+
+const IN_A: Context = Context::Expr(ExprId(2));
+
+const IN_B: Context = Context::Expr(ExprId(3));
+
+const FIRST: Context = Context::Individual(IndId(0));
+
+const SECOND: Context = Context::Individual(IndId(1));
 
 /// A document and the facts that it leads to, none of which stands twice.
 #[derive(Drop)]
