@@ -4,5 +4,5 @@ pub mod Origins
 pub mod Properties
 pub mod Theorems
 pub mod StoredForms
-pub mod Lists
 pub mod Apart
+pub mod SharedLists

@@ -7,6 +7,7 @@ mod forms;
 mod list;
 mod origins;
 mod parts;
+mod shared_list;
 mod stored;
 mod theory;
 
@@ -14,4 +15,5 @@ pub use apart::ApartLists;
 pub use forms::{Class2, Form, Origin, PropId2};
 pub use list::FormList;
 pub use origins::StoredOrigin;
+pub use shared_list::SharedList;
 pub use theory::{forms_are_given, property_forms_suffice};

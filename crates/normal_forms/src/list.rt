@@ -1,26 +1,18 @@
 //! A list of forms.
-ghost use Rattle.normal_forms.specs.Lists.{items_of};
 ghost use Rattle.normal_forms.specs.Properties.{property_forms};
-ghost use Rattle.normal_forms.specs.StoredForms.{form_of};
-ghost use Rattle.std.specs.Prelude.{◌≡◌, ◌<◌, ◌++◌, ◌∷◌, [], IfErr, IfOk, OnErr, OnOk, Some, length, map, slice_get};
+ghost use Rattle.std.specs.Prelude.{◌≡◌, ◌<◌, ◌++◌, ◌∷◌, [], IfOk, OnErr, OnOk, Some, length, slice_get};
 
 use crate::forms::Form;
+use crate::shared_list::SharedList;
 use crate::stored::StoredForm;
 use std::alloc::{AllocError, Global};
 use std::marker::Model;
-use std::rc::Rc;
 
-/// Forms that are this list's own, or that others have too.
-#[derive(Drop)]
-pub(crate) enum Forms {
-    Own(Vec<StoredForm>),
-    Shared(Rc<Vec<StoredForm>>),
-}
-
-/// Normal forms in order, 16 bytes for each. Once they are shared, copies of the list have the same piece of memory.
+/// Normal forms in order, 16 bytes for each. Once they are shared, copies of the list have the same piece of memory, and lists that begin
+/// with these forms have it too, while few stand behind them.
 pub struct FormList {
     alloc: Global,
-    forms: Forms,
+    forms: SharedList<StoredForm>,
 }
 
 // A value is let go by one call, where each way out would else let each field go.
@@ -31,84 +23,13 @@ impl Drop for FormList {
 }
 
 impl Model for FormList {
-    ghost use Rattle.normal_forms.specs.Lists.{forms_of};
+    ghost use Rattle.normal_forms.specs.StoredForms.{form_of};
     ghost use Rattle.normal_forms.specs.declared.forms.Form.{Form};
-    ghost use Rattle.std.specs.Prelude.{List};
+    ghost use Rattle.std.specs.Prelude.{List, map};
 
     ghost Value = { List Form };
 
-    ghost view = { λ l. forms_of l.forms };
-}
-
-fn copied(alloc: Global, forms: &[StoredForm]) -> Result<Vec<StoredForm>, AllocError>
-    ensures { IfOk result (λ v. v.items ≡ forms.now) }
-{
-    let mut copy = Vec::with_capacity(alloc, forms.len())?;
-    copy.extend_from_slice(forms)?;
-    Ok(copy)
-}
-
-/// The forms of the first list, and then those of the second.
-fn joined(
-    alloc: Global,
-    first: &[StoredForm],
-    second: &[StoredForm],
-) -> Result<Vec<StoredForm>, AllocError>
-    ensures { IfOk result (λ v. v.items ≡ first.now ++ second.now) }
-{
-    let mut all = Vec::with_capacity(alloc, first.len().saturating_add(second.len()))?;
-    all.extend_from_slice(first)?;
-    all.extend_from_slice(second)?;
-    Ok(all)
-}
-
-/// The forms, in order.
-fn slice_of(forms: &Forms) -> &[StoredForm]
-    ensures { result.now ≡ items_of forms.now }
-{
-    match forms {
-        Forms::Own(forms) => forms.as_slice(),
-        Forms::Shared(forms) => forms.as_ref().as_slice(),
-    }
-}
-
-/// Adds a form at the end of forms that are then the list's own. Fails where memory is refused; then nothing changes.
-fn push(forms: &mut Forms, alloc: Global, form: StoredForm) -> Result<(), AllocError>
-    ensures ok { OnOk result (items_of forms.new ≡ items_of forms.old ++ form ∷ []) }
-    ensures err { OnErr result (items_of forms.new ≡ items_of forms.old) }
-{
-    if let Forms::Own(forms) = forms {
-        forms.push(form)?;
-        return Ok(());
-    }
-    let own = joined(alloc, slice_of(forms), &[form])?;
-    *forms = Forms::Own(own);
-    Ok(())
-}
-
-/// The same forms, in the same memory where they are shared.
-fn copy(alloc: Global, forms: &Forms) -> Result<Forms, AllocError>
-    ensures { IfOk result (λ copy. items_of copy ≡ items_of forms.now) }
-{
-    let copy = match forms {
-        Forms::Own(forms) => Forms::Own(copied(alloc, forms)?),
-        Forms::Shared(forms) => Forms::Shared(forms.clone()?),
-    };
-    Ok(copy)
-}
-
-/// Makes the forms such that others may have them too.
-fn shared(alloc: Global, forms: Forms) -> Result<Rc<Vec<StoredForm>>, Forms>
-    ensures ok { IfOk result (λ rc. rc.value.items ≡ items_of forms) }
-    ensures err { IfErr result (λ back. back ≡ forms) }
-{
-    match forms {
-        Forms::Shared(forms) => Ok(forms),
-        Forms::Own(forms) => match Rc::new(alloc, forms) {
-            Ok(forms) => Ok(forms),
-            Err(failed) => Err(Forms::Own(failed.value)),
-        },
-    }
+    ghost view = { λ l. map form_of l.forms.items };
 }
 
 impl FormList {
@@ -118,7 +39,7 @@ impl FormList {
     {
         FormList {
             alloc,
-            forms: Forms::Own(Vec::new(alloc)),
+            forms: SharedList::new(alloc),
         }
     }
 
@@ -133,25 +54,18 @@ impl FormList {
         Ok(list)
     }
 
-    /// The forms, as they are kept.
-    fn as_slice(&self) -> &[StoredForm]
-        ensures { map form_of result.now ≡ self.now }
-    {
-        slice_of(&self.forms)
-    }
-
     /// How many forms there are.
     pub fn len(&self) -> usize
         ensures { result ≡ length self.now }
     {
-        self.as_slice().len()
+        self.forms.len()
     }
 
     /// The form of that number, counted from 0, if there is one.
     pub fn get(&self, number: usize) -> Option<Form>
         ensures { result ≡ slice_get self.now number }
     {
-        let form = self.as_slice().get(number)?;
+        let form = self.forms.get(number)?;
         Some(form.get())
     }
 
@@ -161,17 +75,16 @@ impl FormList {
         requires { number < length self.now }
         ensures { slice_get self.now number ≡ Some result }
     {
-        self.as_slice()[number].get()
+        self.forms.at(number).get()
     }
 
     /// Those of the forms that are of properties alone. Fails where memory is refused.
     pub fn property_forms(&self) -> Result<Vec<Form>, AllocError>
         ensures { IfOk result (λ v. v.items ≡ property_forms self.now) }
     {
-        let forms = self.as_slice();
         let mut kept = Vec::new(self.alloc);
-        for number in 0..forms.len() {
-            let form = &forms[number];
+        for number in 0..self.forms.len() {
+            let form = self.forms.at(number);
             if form.is_of_properties() {
                 kept.push(form.get())?;
             }
@@ -179,29 +92,27 @@ impl FormList {
         Ok(kept)
     }
 
-    /// Adds a form at the end. Fails where memory is refused; then nothing changes.
+    /// Adds a form at the end. Fails where memory is refused, or there would be 2^64 forms; then nothing changes.
     pub fn push(&mut self, form: Form) -> Result<(), AllocError>
         ensures ok { OnOk result (self.new ≡ self.old ++ form ∷ []) }
         ensures err { OnErr result (self.new ≡ self.old) }
     {
-        push(&mut self.forms, self.alloc, StoredForm::new(form))
+        self.forms.push(StoredForm::new(form))
     }
 
-    /// These forms, and behind them those of the other list. Where one of the two has none, the result has the memory of the other,
-    /// this one's only where it is shared already. Fails where memory is refused.
+    /// These forms, and behind them those of the other list. Where one of the two has none, the result has the memory of the other, this
+    /// one's only where it is shared already; else what is shared already is in the same memory, while few forms stand behind it. Fails
+    /// where memory is refused, or there would be 2^64 forms.
     pub fn joined(&self, more: FormList) -> Result<FormList, AllocError>
         ensures { IfOk result (λ all. all ≡ self.now ++ more) }
     {
         if self.len() == 0 {
             return Ok(more);
         }
-        if more.len() == 0 {
-            return self.copy();
-        }
-        let forms = joined(self.alloc, self.as_slice(), more.as_slice())?;
+        let forms = self.forms.joined(&more.forms)?;
         Ok(FormList {
             alloc: self.alloc,
-            forms: Forms::Own(forms),
+            forms,
         })
     }
 
@@ -209,7 +120,7 @@ impl FormList {
     pub fn copy(&self) -> Result<FormList, AllocError>
         ensures { IfOk result (λ copy. copy ≡ self.now) }
     {
-        let forms = copy(self.alloc, &self.forms)?;
+        let forms = self.forms.copy()?;
         Ok(FormList {
             alloc: self.alloc,
             forms,
@@ -221,10 +132,9 @@ impl FormList {
         ensures { result ≡ self }
     {
         let FormList { alloc, forms } = self;
-        let forms = match shared(alloc, forms) {
-            Ok(forms) => Forms::Shared(forms),
-            Err(forms) => forms,
-        };
-        FormList { alloc, forms }
+        FormList {
+            alloc,
+            forms: forms.share(),
+        }
     }
 }

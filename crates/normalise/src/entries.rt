@@ -4,7 +4,7 @@ ghost use Rattle.std.specs.Prelude.{◌≡◌, [], ◌∷◌, ◌++◌, IfOk, On
 ghost use Rattle.normalise.specs.Entries.{form_in, origin_in};
 
 use axioms::Memory;
-use normal_forms::{Form, FormList, Origin, StoredOrigin};
+use normal_forms::{Form, FormList, Origin, SharedList, StoredOrigin};
 use std::alloc::Global;
 use std::marker::Model;
 
@@ -19,7 +19,7 @@ pub struct Entry {
 pub(crate) struct Entries {
     forms: FormList,
     // as many
-    origins: Vec<StoredOrigin>,
+    origins: SharedList<StoredOrigin>,
 }
 
 // A value is let go by one call, where each way out would else let each field go.
@@ -45,29 +45,11 @@ impl Model for Entries {
     ghost invariant = { λ e. length e.origins.items ≡ length e.forms };
 }
 
-fn origin_at(origins: &[StoredOrigin], place: usize) -> Option<Origin>
-    ensures { result ≡ slice_get (map origin_of origins.now) place }
+fn origin_at(origins: &SharedList<StoredOrigin>, place: usize) -> Option<Origin>
+    ensures { result ≡ slice_get (map origin_of origins.now.items) place }
 {
     let origin = origins.get(place)?;
     Some(origin.get())
-}
-
-// The origins of the first list, and then those of the second. Where the first has none, they stay where they are.
-fn joined(
-    alloc: Global,
-    first: &[StoredOrigin],
-    second: Vec<StoredOrigin>,
-) -> Result<Vec<StoredOrigin>, Memory>
-    ensures { IfOk result (λ all. all.items ≡ first.now ++ second.items) }
-{
-    if first.is_empty() {
-        return Ok(second);
-    }
-    let count = first.len().saturating_add(second.len());
-    let mut all = Vec::with_capacity(alloc, count)?;
-    all.extend_from_slice(first)?;
-    all.extend_from_slice(&second)?;
-    Ok(all)
 }
 
 impl Entries {
@@ -77,7 +59,7 @@ impl Entries {
     {
         Entries {
             forms: FormList::new(alloc),
-            origins: Vec::new(alloc),
+            origins: SharedList::new(alloc),
         }
     }
 
@@ -102,40 +84,39 @@ impl Entries {
         let Some(origin) = StoredOrigin::new(entry.origin) else {
             return Err(Memory);
         };
-        self.origins.reserve(1)?;
+        self.origins.reserve()?;
         self.forms.push(entry.form)?;
         self.origins.push_reserved(origin);
         Ok(())
     }
 
-    // These forms, and the others behind them.
-    pub(crate) fn joined(&self, alloc: Global, more: Entries) -> Result<Entries, Memory>
+    // These forms, and the others behind them. What is shared is in the same memory, while few stand behind it.
+    pub(crate) fn joined(&self, more: Entries) -> Result<Entries, Memory>
         ensures { IfOk result (λ e. e ≡ self.now ++ more) }
     {
         let Entries { forms, origins } = more;
         let forms = self.forms.joined(forms)?;
-        let origins = joined(alloc, &self.origins, origins)?;
+        let origins = self.origins.joined(&origins)?;
         Ok(Entries { forms, origins })
     }
 
     // The same.
-    pub(crate) fn copy(&self, alloc: Global) -> Result<Entries, Memory>
+    pub(crate) fn copy(&self) -> Result<Entries, Memory>
         ensures { IfOk result (λ e. e ≡ self.now) }
     {
         let forms = self.forms.copy()?;
-        let mut origins = Vec::new(alloc);
-        origins.extend_from_slice(&self.origins)?;
+        let origins = self.origins.copy()?;
         Ok(Entries { forms, origins })
     }
 
-    // The same, so that copies of the forms are in the same memory.
+    // The same, so that copies are in the same memory.
     pub(crate) fn share(self) -> Entries
         ensures { result ≡ self }
     {
         let Entries { forms, origins } = self;
         Entries {
             forms: forms.share(),
-            origins,
+            origins: origins.share(),
         }
     }
 }

@@ -57,7 +57,7 @@ impl Made {
     pub(crate) fn copy(&self, alloc: Global) -> Result<Made, Memory>
         ensures { IfOk result (λ m. m ≡ self.now) }
     {
-        let entries = self.entries.copy(alloc)?;
+        let entries = self.entries.copy()?;
         let apart = self.apart.copy(alloc)?;
         let operands = self.operands.copy(alloc)?;
         let steps = self.steps.copy(alloc)?;
@@ -117,7 +117,7 @@ impl Made {
             operands,
             steps,
         } = more;
-        let entries = self.entries.joined(alloc, entries)?;
+        let entries = self.entries.joined(entries)?;
         let apart = self.apart.joined(alloc, &apart)?;
         Ok(Made {
             entries,
