@@ -26,7 +26,7 @@ use crate::roles::ByRole;
 use crate::seconds::with_second;
 use axioms::IndId;
 use facts::Context;
-use normal_forms::{ApartLists, Class2, Form, FormList, PropId2};
+use normal_forms::{ApartLists, Class2, Form, FormList, PropId2, SharedList};
 use std::alloc::{AllocError, Global};
 use std::marker::Model;
 
@@ -35,7 +35,7 @@ pub struct IndexedProblem {
     alloc: Global,
     forms: FormList,
     apart: ApartLists,
-    roots: Vec<Context>,
+    roots: SharedList<Context>,
     disjoint: Disjointness,
     index: ByRole<FormLists>,
     /// The forms that are listed by the class that they need alone.
@@ -85,20 +85,41 @@ impl Model for IndexedProblem {
 /// Up to how many further forms there may be beside lists that copies share; then all are listed anew. It decides nothing.
 const FEW_FORMS: usize = 64;
 
-/// The contexts of the first list, and then those of the second.
-fn joined(alloc: Global, first: &[Context], second: &[Context]) -> Result<Vec<Context>, AllocError>
-    ensures { IfOk result (λ all. all.items ≡ first.now ++ second.now) }
+/// The problem of these forms, lists and roots, with all forms listed by key. Fails where memory is refused, and where there are 2^32 forms,
+/// lists or members of lists.
+fn listed_anew(
+    alloc: Global,
+    forms: FormList,
+    apart: ApartLists,
+    roots: SharedList<Context>,
+) -> Result<IndexedProblem, AllocError>
+    ensures forms { IfOk result (λ p. p.forms ≡ forms) }
+    ensures apart { IfOk result (λ p. p.apart ≡ apart) }
+    ensures roots { IfOk result (λ p. p.roots ≡ roots.items) }
 {
-    let mut all = Vec::new(alloc);
-    all.extend_from_slice(first)?;
-    all.extend_from_slice(second)?;
-    Ok(all)
+    if forms.len() > u32::MAX as usize {
+        return Err(AllocError);
+    }
+    let disjoint = Disjointness::of(alloc, &apart.classes)?;
+    let index = listed(alloc, &forms)?;
+    let alone = LedForms::of(alloc, &forms, &index.alone)?;
+    let fillers = LedForms::of(alloc, &forms, &index.fillers)?;
+    Ok(IndexedProblem {
+        alloc,
+        forms,
+        apart,
+        roots,
+        disjoint,
+        index,
+        alone,
+        fillers,
+    })
 }
 
 impl IndexedProblem {
     /// The problem of these forms, which begin with its own, and lists, with these contexts behind its own; the problem itself stays. The
-    /// memory of a list of forms that is shared already is shared, and so are, while few forms have been added, the lists by key. Fails where memory is refused, and where there are 2^32 forms, lists
-    /// or members of lists.
+    /// memory of a list of forms that is shared already is shared, and so are its own contexts, and, while few forms have been added, the
+    /// lists by key. Fails where memory is refused, and where there are 2^32 forms, lists or members of lists, or 2^64 contexts.
     pub fn continued(
         &self,
         forms: &FormList,
@@ -113,11 +134,11 @@ impl IndexedProblem {
         let from = self.forms.len();
         let forms = forms.copy()?;
         let apart = apart.copy(self.alloc)?;
-        let roots = joined(self.alloc, &self.roots, roots)?;
+        let roots = self.roots.with_more(roots)?.share();
         if forms.len().saturating_sub(self.alone.end) > FEW_FORMS
             || forms.len() > u32::MAX as usize
         {
-            return IndexedProblem::new(self.alloc, forms, apart, roots);
+            return listed_anew(self.alloc, forms, apart, roots);
         }
         let disjoint = Disjointness::of(self.alloc, &apart.classes)?;
         let index = listed_more(self.alloc, &self.index, &forms, from)?;
@@ -147,23 +168,7 @@ impl IndexedProblem {
         ensures apart { IfOk result (λ p. p.apart ≡ apart) }
         ensures roots { IfOk result (λ p. p.roots ≡ roots.items) }
     {
-        if forms.len() > u32::MAX as usize {
-            return Err(AllocError);
-        }
-        let disjoint = Disjointness::of(alloc, &apart.classes)?;
-        let index = listed(alloc, &forms)?;
-        let alone = LedForms::of(alloc, &forms, &index.alone)?;
-        let fillers = LedForms::of(alloc, &forms, &index.fillers)?;
-        Ok(IndexedProblem {
-            alloc,
-            forms,
-            apart,
-            roots,
-            disjoint,
-            index,
-            alone,
-            fillers,
-        })
+        listed_anew(alloc, forms, apart, SharedList::of(roots).share())
     }
 
     /// The forms.
@@ -189,8 +194,8 @@ impl IndexedProblem {
     }
 
     /// The contexts that are there from the start.
-    pub fn roots(&self) -> &[Context]
-        ensures { result.now ≡ self.now.roots }
+    pub fn roots(&self) -> &SharedList<Context>
+        ensures { result.now.items ≡ self.now.roots }
     {
         &self.roots
     }

@@ -33,10 +33,11 @@ pub context_still : {k : Problem} {most : ℕ} {a b : Derived} → Grows k most 
 context_still s numbers x w = (w.0, at_still _ _ s.facts numbers w.0 w.1, w.2)
 
 -- what holds of each member of a list so far, and of the next
+pub each_next : {X : Type 0} (P Q : X → Type 0) (xs : List X) (i : ℕ) (y : X) → slice_get xs i ≡ Some y → ((x : X) → Contains (take i xs) x → P x) → ((x : X) → P x → Q x) → Q y → (x : X) → Contains (take (i + 1) xs) x → Q x
+each_next P Q xs i y at before still here x there = ⊎_elim (λ w. still x (before x w)) (λ e. subst Q e here) (Contains-push_cases (take i xs) y x (rw (take_push xs i y at) at there))
+
 pub each_more : {X : Type 0} (P Q : X → Type 0) (xs items : List X) (i : ℕ) (d : X) → items ≡ xs → i < length items → ((x : X) → Contains (take i xs) x → P x) → ((x : X) → P x → Q x) → Q (get_or items i d) → (x : X) → Contains (take (i + 1) xs) x → Q x
-each_more {X} P Q xs items i d same low before still here x there =
-    let at : slice_get xs i ≡ Some (get_or items i d) = subst (λ (ys : List X). slice_get ys i ≡ Some (get_or items i d)) same (slice_get-get_or items i d low) in
-    ⊎_elim (λ w. still x (before x w)) (λ e. subst Q e here) (Contains-push_cases (take i xs) (get_or items i d) x (rw (take_push xs i (get_or items i d) at) at there))
+each_more {X} P Q xs items i d same low = each_next P Q xs i (get_or items i d) (subst (λ (ys : List X). slice_get ys i ≡ Some (get_or items i d)) same (slice_get-get_or items i d low))
 
 pub each : {X : Type 0} (P : X → Type 0) (xs items : List X) (i : ℕ) → items ≡ xs → length items ≤ i → ((x : X) → Contains (take i xs) x → P x) → (x : X) → Contains xs x → P x
 each P xs items i same long before x there =

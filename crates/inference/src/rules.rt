@@ -424,7 +424,7 @@ impl Rules<'_> {
     {
         let roots = self.problem.roots();
         for number in entered..roots.len() {
-            self.enter(facts, roots[number], &[])?;
+            self.enter(facts, *roots.at(number), &[])?;
         }
         let none = Premises {
             numbers: &[],

@@ -16,6 +16,8 @@ mod properties;
 #[cfg(test)]
 mod sets;
 #[cfg(test)]
+mod shared_lists;
+#[cfg(test)]
 mod stored_facts;
 #[cfg(test)]
 mod taken_out;

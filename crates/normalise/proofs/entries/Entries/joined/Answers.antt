@@ -11,5 +11,5 @@ returns c =
     let origins = c.self.inside.origins.items in
     let more = c.more.inside.origins.items in
     ap₂ paired c.in_ok-forms.ensures
-    (ap (map origin_of) (c.in_ok-origins.ensures ∙ ap (λ xs. xs ++ more) c.deref.ensures.value) ∙ map-append origin_of origins more)
+    (ap (map origin_of) c.in_ok-origins.ensures ∙ map-append origin_of origins more)
     ∙ paired_append forms c.more.inside.forms (map origin_of origins) (map origin_of more) (as_many forms origins c.self.invariant) ∙ ap₂ (λ x y. x ++ y) c.self.view_is c.more.view_is

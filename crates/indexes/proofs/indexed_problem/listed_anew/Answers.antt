@@ -1,5 +1,5 @@
 use Rattle.indexes.proofs.Led.{led_first}
-use Rattle.indexes.proofs.indexed_problem.IndexedProblem.new.Goals as goal
+use Rattle.indexes.proofs.indexed_problem.listed_anew.Goals as goal
 
 pub invariant_of-result : goal.invariant_of-result
 invariant_of-result c = record {
