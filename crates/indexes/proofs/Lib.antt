@@ -1,4 +1,5 @@
 pub mod Tables
+pub mod Packing
 pub mod Adding
 pub mod Parts
 pub mod ByRoles

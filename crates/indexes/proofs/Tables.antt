@@ -1,7 +1,7 @@
 -- Lists by number, as they grow.
-use Rattle.std.proofs.Common.{◌≡◌, ℕ, zero, suc, ◌+◌, ◌<◌, ◌≤◌, true, false, not, ne_eqb, eq-eqb, inl, inr, ⊎_elim, List, [], ◌∷◌, ◌++◌, length, get_or, set, Contains, refl, sym, ap, ◌∙◌, subst, arith}
+use Rattle.std.proofs.Common.{◌≡◌, ℕ, zero, suc, ◌+◌, ◌-◌, ◌<◌, ◌≤◌, true, false, not, ne_eqb, eq-eqb, inl, inr, ⊎_elim, List, [], ◌∷◌, ◌++◌, length, get_or, set, Contains, refl, sym, ap, ◌∙◌, subst, arith}
 use Rattle.std.proofs.lemmas.Bool.{cases_eq}
-use Rattle.std.proofs.lemmas.List.{get_or_append_left, get_or-set_same, get_or-set_other}
+use Rattle.std.proofs.lemmas.List.{append_assoc, get_or_append_left, get_or-append_right, get_or-set_same, get_or-set_other, length-append, set-append_left, set-append_right}
 use Rattle.std.proofs.lemmas.List.Elements.{Contains-append_left, Contains-push, Contains-push_cases}
 use Rattle.std.proofs.Math.Seq.{get_or-append_seam}
 use Rattle.indexes.specs.Tables.{at, by_key, is_other, list_of, without, Adds, IsSame, IsTable, PutsLast, Removes}
@@ -32,21 +32,23 @@ pub list_of_more : (lists : List (List ℕ)) (new : List ℕ) (n : ℕ) → n �
 list_of_more lists new zero low = refl
 list_of_more lists new (suc place) low = get_or_append_left lists (new ∷ []) [] place (omega arith)
 
-pub puts_begun : (numbers : List ℕ) (lists : List (List ℕ)) (key number : ℕ) → IsTable numbers lists → key < length numbers → get_or numbers key 0 ≡ 0 →
-    PutsLast (by_key numbers lists) (by_key (set numbers key (length lists + 1)) (lists ++ (number ∷ []) ∷ [])) key number
-puts_begun numbers lists key number table low empty k = elim (cases_eq k key) [
+-- a new list of the key, with the number behind those of the old one
+pub puts_begun : (numbers : List ℕ) (lists : List (List ℕ)) (key number n : ℕ) (list : List ℕ) → IsTable numbers lists → key < length numbers → n ≡ length lists + 1
+    → list ≡ list_of lists (get_or numbers key 0) ++ number ∷ [] → PutsLast (by_key numbers lists) (by_key (set numbers key n) (lists ++ list ∷ [])) key number
+puts_begun numbers lists key number n list table low next is k = elim (cases_eq k key) [
   | inl e ↦ inr (
     e,
-    at_by_key (set numbers key (length lists + 1)) (lists ++ (number ∷ []) ∷ []) k
-        ∙ list_of_next (lists ++ (number ∷ []) ∷ []) (get_or (set numbers key (length lists + 1)) k 0) (length lists) (ap (λ i. get_or (set numbers key (length lists + 1)) i 0) e ∙ get_or-set_same numbers key (length lists + 1) 0 low)
-        ∙ get_or-append_seam lists (number ∷ []) [] []
-        ∙ sym (ap (λ (l : List ℕ). l ++ number ∷ []) (at_by_key numbers lists k ∙ ap (list_of lists) (ap (λ i. get_or numbers i 0) e ∙ empty))),
+    at_by_key (set numbers key n) (lists ++ list ∷ []) k
+        ∙ list_of_next (lists ++ list ∷ []) (get_or (set numbers key n) k 0) (length lists) (ap (λ i. get_or (set numbers key n) i 0) e ∙ get_or-set_same numbers key n 0 low ∙ next)
+        ∙ get_or-append_seam lists list [] []
+        ∙ is
+        ∙ sym (ap (λ (l : List ℕ). l ++ number ∷ []) (at_by_key numbers lists k ∙ ap (list_of lists) (ap (λ i. get_or numbers i 0) e))),
   )
   | inr ne ↦ inl (
     ne,
-    at_by_key (set numbers key (length lists + 1)) (lists ++ (number ∷ []) ∷ []) k
-        ∙ ap (list_of (lists ++ (number ∷ []) ∷ [])) (get_or-set_other numbers key k (length lists + 1) 0 ne)
-        ∙ list_of_more lists (number ∷ []) (get_or numbers k 0) (table.within k)
+    at_by_key (set numbers key n) (lists ++ list ∷ []) k
+        ∙ ap (list_of (lists ++ list ∷ [])) (get_or-set_other numbers key k n 0 ne)
+        ∙ list_of_more lists list (get_or numbers k 0) (table.within k)
         ∙ sym (at_by_key numbers lists k),
   )
 ]
@@ -133,3 +135,46 @@ other number n ne = ap not (ne_eqb n number ne)
 
 pub not_other : (number n : ℕ) → n ≡ number → is_other number n ≡ false
 not_other number n e = ap not (eq-eqb n number e)
+
+-- ---- the first lists apart from the others
+
+pub listed_first : (firsts others : List (List ℕ)) (n place : ℕ) → n ≡ place + 1 → place < length firsts → list_of (firsts ++ others) n ≡ at firsts place
+listed_first firsts others n place is low = list_of_next (firsts ++ others) n place is ∙ get_or_append_left firsts others [] place low
+
+pub puts_behind : (numbers : List ℕ) (firsts others more : List (List ℕ)) (key number n : ℕ) (list : List ℕ) → IsTable numbers (firsts ++ others) → key < length numbers
+    → n ≡ length firsts + length others + 1 → list ≡ list_of (firsts ++ others) (get_or numbers key 0) → more ≡ others ++ (list ++ number ∷ []) ∷ []
+    → PutsLast (by_key numbers (firsts ++ others)) (by_key (set numbers key n) (firsts ++ more)) key number
+puts_behind numbers firsts others more key number n list table low next is behind =
+    let all : (firsts ++ others) ++ (list ++ number ∷ []) ∷ [] ≡ firsts ++ more = append_assoc firsts others ((list ++ number ∷ []) ∷ []) ∙ ap (λ (ls : List (List ℕ)). firsts ++ ls) (sym behind) in
+    subst (λ (ls : List (List ℕ)). PutsLast (by_key numbers (firsts ++ others)) (by_key (set numbers key n) ls) key number) all
+    (puts_begun numbers (firsts ++ others) key number n (list ++ number ∷ []) table low (omega (arith, next, length-append firsts others)) (ap (λ (l : List ℕ). l ++ number ∷ []) is))
+
+-- one of the others changed
+set_among : (firsts others : List (List ℕ)) (first place : ℕ) (f : List ℕ → List ℕ) → first ≡ length firsts
+    → set (firsts ++ others) (first + place) (f (at (firsts ++ others) (first + place))) ≡ firsts ++ set others place (f (at others place))
+set_among firsts others first place f long =
+    let back : (first + place) - first ≡ place = omega arith in
+    ap (λ (l : List ℕ). set (firsts ++ others) (first + place) (f l)) (get_or-append_right firsts others first (first + place) [] (sym long) (omega arith) ∙ ap (at others) back)
+    ∙ set-append_right firsts others first (first + place) (f (at others place)) (sym long) (omega arith)
+    ∙ ap (λ (i : ℕ). firsts ++ set others i (f (at others place))) back
+
+pub puts_among : (numbers : List ℕ) (firsts others : List (List ℕ)) (key first place number : ℕ) → IsTable numbers (firsts ++ others) → first ≡ length firsts → get_or numbers key 0 ≡ first + place + 1 →
+    PutsLast (by_key numbers (firsts ++ others)) (by_key numbers (firsts ++ set others place (at others place ++ number ∷ []))) key number
+puts_among numbers firsts others key first place number table long is =
+    subst (λ (ls : List (List ℕ)). PutsLast (by_key numbers (firsts ++ others)) (by_key numbers ls) key number)
+    (set_among firsts others first place (λ (l : List ℕ). l ++ number ∷ []) long)
+    (puts_set numbers (firsts ++ others) key (first + place) number table is)
+
+pub removes_among : (numbers : List ℕ) (firsts others : List (List ℕ)) (key first place number : ℕ) → IsTable numbers (firsts ++ others) → first ≡ length firsts → get_or numbers key 0 ≡ first + place + 1 →
+    Removes (by_key numbers (firsts ++ others)) (by_key numbers (firsts ++ set others place (without number (at others place)))) key number
+removes_among numbers firsts others key first place number table long is =
+    subst (λ (ls : List (List ℕ)). Removes (by_key numbers (firsts ++ others)) (by_key numbers ls) key number)
+    (set_among firsts others first place (without number) long)
+    (removes_set numbers (firsts ++ others) key (first + place) number table is)
+
+pub removes_first : (numbers : List ℕ) (firsts others : List (List ℕ)) (key place number : ℕ) → IsTable numbers (firsts ++ others) → place < length firsts → get_or numbers key 0 ≡ place + 1 →
+    Removes (by_key numbers (firsts ++ others)) (by_key numbers (set firsts place (without number (at firsts place)) ++ others)) key number
+removes_first numbers firsts others key place number table low is =
+    subst (λ (ls : List (List ℕ)). Removes (by_key numbers (firsts ++ others)) (by_key numbers ls) key number)
+    (ap (λ (l : List ℕ). set (firsts ++ others) place (without number l)) (get_or_append_left firsts others [] place low) ∙ set-append_left firsts others place (without number (at firsts place)) low)
+    (removes_set numbers (firsts ++ others) key place number table is)

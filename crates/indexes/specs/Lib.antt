@@ -1,4 +1,5 @@
 pub mod Tables
+pub mod Packed
 pub mod Contexts
 pub mod Parts
 pub mod FactIndex

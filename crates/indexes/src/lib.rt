@@ -22,6 +22,7 @@ mod lists;
 mod membership;
 mod named;
 mod overlap;
+mod packed;
 mod roles;
 mod roots;
 mod same_individuals;

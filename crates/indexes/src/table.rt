@@ -2,69 +2,96 @@
 ghost use Rattle.std.specs.Prelude.{◌≡◌, ◌+◌, ◌<◌, [], ◌∷◌, ◌++◌, length, slice_set, take, OnOk, OnErr, IfOk};
 ghost use Rattle.indexes.specs.Tables.{at, by_key, list_of, without, Adds, IsSame, IsTable, PutsLast, Removes};
 
+use crate::packed::Packed;
 use number_sets::NumberList;
 use std::alloc::{AllocError, Global};
 use std::marker::Model;
 
 /// A list for each number, empty where nothing was added: 4 bytes for each number up to the greatest that has one, and 16 for each
-/// list that is not empty, which hold up to three numbers.
+/// list that is not empty, which hold up to three numbers. The lists that a copy begins with stand in one piece of memory.
 #[derive(Drop)]
 pub struct Table {
     alloc: Global,
     /// What stands for the list of each key: one more than its place, or 0 where it is empty.
     keys: Vec<u32>,
+    /// The lists that a copy began with. They have the first places, and get no more numbers.
+    packed: Packed,
+    /// The others, behind those.
     lists: Vec<NumberList>,
 }
 
 impl Model for Table {
     ghost use Rattle.indexes.specs.Tables.{by_key, IsTable};
-    ghost use Rattle.std.specs.Prelude.{ℕ, List};
+    ghost use Rattle.std.specs.Prelude.{ℕ, List, ◌++◌};
 
     ghost Value = { List (List ℕ) };
 
-    ghost view = { λ t. by_key t.keys.items t.lists.items };
+    ghost view = { λ t. by_key t.keys.items (t.packed ++ t.lists.items) };
 
-    ghost invariant = { λ t. IsTable t.keys.items t.lists.items };
+    ghost invariant = { λ t. IsTable t.keys.items (t.packed ++ t.lists.items) };
+}
+
+/// The list at the place, or an empty one past the end.
+#[inline(always)]
+fn own(lists: &[NumberList], place: usize) -> &[u32]
+    ensures { result.now ≡ at lists.now place }
+{
+    if place < lists.len() {
+        lists[place].as_slice()
+    } else {
+        &[]
+    }
 }
 
 /// The list that the number stands for.
 #[inline(always)]
-fn listed(lists: &[NumberList], number: u32) -> &[u32]
-    ensures { result.now ≡ list_of lists.now number }
+fn listed<'a>(packed: &'a Packed, lists: &'a [NumberList], number: u32) -> &'a [u32]
+    ensures { result.now ≡ list_of (packed.now ++ lists.now) number }
 {
-    let place = number as usize;
-    if place == 0 || place > lists.len() {
+    if number == 0 {
         return &[];
     }
-    lists[place - 1].as_slice()
+    let place = number as usize - 1;
+    let first = packed.len();
+    if place < first {
+        return packed.of(place);
+    }
+    own(lists, place - first)
 }
 
-/// A list of one number.
-fn single(alloc: Global, number: u32) -> Result<NumberList, AllocError>
-    ensures { IfOk result (λ list. list ≡ number ∷ []) }
+/// A list of these numbers and one more.
+fn with_more(alloc: Global, numbers: &[u32], number: u32) -> Result<NumberList, AllocError>
+    ensures { IfOk result (λ list. list ≡ numbers.now ++ number ∷ []) }
 {
-    let mut list = NumberList::new();
+    let mut list = NumberList::of(alloc, numbers)?;
     list.push(alloc, number)?;
     Ok(list)
 }
 
-/// Puts a list of one number behind the others, and tells what stands for it. Fails where memory is refused, or there are 2^32 - 1
-/// lists; then nothing changes.
-fn begin(alloc: Global, lists: &mut Vec<NumberList>, number: u32) -> Result<u32, AllocError>
-    ensures stands { IfOk result (λ n. n ≡ length lists.old.items + 1) }
-    ensures ok { OnOk result (lists.new.items ≡ lists.old.items ++ (number ∷ []) ∷ []) }
+/// Puts a list of these numbers and one more behind the others, which are so many and those before them, and tells what stands for
+/// it. Fails where memory is refused, or there are 2^32 - 1 lists; then nothing changes.
+fn begin(
+    alloc: Global,
+    before: usize,
+    lists: &mut Vec<NumberList>,
+    numbers: &[u32],
+    number: u32,
+) -> Result<u32, AllocError>
+    ensures stands { IfOk result (λ n. n ≡ before + length lists.old.items + 1) }
+    ensures ok { OnOk result (lists.new.items ≡ lists.old.items ++ (numbers.now ++ number ∷ []) ∷ []) }
     ensures err { OnErr result (lists.new.items ≡ lists.old.items) }
 {
+    let most = u32::MAX as usize;
     let count = lists.len();
-    // Not where fewer than 2^32 keys have had a number: each list is of another key.
-    if count >= u32::MAX as usize {
+    // Not where fewer than 2^32 lists were begun, here and in the tables that this one is a copy of.
+    if before >= most || count >= most - before {
         return Err(AllocError);
     }
-    let list = single(alloc, number)?;
+    let list = with_more(alloc, numbers, number)?;
     let Ok(()) = lists.push(list) else {
         return Err(AllocError);
     };
-    Ok(count as u32 + 1)
+    Ok((before + count) as u32 + 1)
 }
 
 /// Adds a number to the list that the other number stands for. Fails where memory is refused; then nothing changes.
@@ -85,45 +112,58 @@ fn push(
 fn put(
     alloc: Global,
     keys: &mut Vec<u32>,
+    packed: &Packed,
     lists: &mut Vec<NumberList>,
     key: usize,
     number: u32,
 ) -> Result<(), AllocError>
-    requires table { IsTable keys.old.items lists.old.items }
+    requires table { IsTable keys.old.items (packed.now ++ lists.old.items) }
     requires there { key < length keys.old.items }
-    ensures table { IsTable keys.new.items lists.new.items }
-    ensures ok { OnOk result (PutsLast (by_key keys.old.items lists.old.items) (by_key keys.new.items lists.new.items) key number) }
+    ensures table { IsTable keys.new.items (packed.now ++ lists.new.items) }
+    ensures ok { OnOk result (PutsLast (by_key keys.old.items (packed.now ++ lists.old.items)) (by_key keys.new.items (packed.now ++ lists.new.items)) key number) }
     ensures keys { OnErr result (keys.new.items ≡ keys.old.items) }
     ensures lists { OnErr result (lists.new.items ≡ lists.old.items) }
 {
-    let place = keys[key] as usize;
-    if place == 0 {
-        keys[key] = begin(alloc, lists, number)?;
-        return Ok(());
+    let stands = keys[key] as usize;
+    let first = packed.len();
+    if stands > first {
+        return push(alloc, lists, stands - 1 - first, number);
     }
-    push(alloc, lists, place - 1, number)
-}
-
-/// Puts a list of these numbers behind the others. Fails where memory is refused.
-fn push_copy(alloc: Global, lists: &mut Vec<NumberList>, numbers: &[u32]) -> Result<(), AllocError>
-    ensures { OnOk result (lists.new.items ≡ lists.old.items ++ numbers.now ∷ []) }
-{
-    let list = NumberList::of(alloc, numbers)?;
-    let Ok(()) = lists.push(list) else {
-        return Err(AllocError);
+    let numbers = if stands == 0 {
+        &[]
+    } else {
+        packed.of(stands - 1)
     };
+    keys[key] = begin(alloc, first, lists, numbers, number)?;
     Ok(())
 }
 
-/// The same lists. Fails where memory is refused.
-fn copied(alloc: Global, lists: &[NumberList]) -> Result<Vec<NumberList>, AllocError>
-    ensures { IfOk result (λ copy. copy.items ≡ lists.now) }
-{
-    let mut copy = Vec::with_capacity(alloc, lists.len())?;
+/// How many numbers the lists have together: for how many a copy makes room.
+fn numbers_in(lists: &[NumberList]) -> usize {
+    let mut count: usize = 0;
     for list in lists {
-        push_copy(alloc, &mut copy, list.as_slice())?;
+        count = count.saturating_add(list.len());
     }
-    Ok(copy)
+    count
+}
+
+/// Puts copies of the lists behind the packed ones. Fails where memory is refused.
+fn push_copies(packed: &mut Packed, lists: &[NumberList]) -> Result<(), AllocError>
+    ensures { OnOk result (packed.new ≡ packed.old ++ lists.now) }
+{
+    for list in lists {
+        packed.push_list(list.as_slice())?;
+    }
+    Ok(())
+}
+
+/// All lists, in one piece of memory. Fails where memory is refused.
+fn all_packed(alloc: Global, packed: &Packed, lists: &[NumberList]) -> Result<Packed, AllocError>
+    ensures { IfOk result (λ all. all ≡ packed.now ++ lists.now) }
+{
+    let mut all = packed.copy_with_room(alloc, lists.len(), numbers_in(lists))?;
+    push_copies(&mut all, lists)?;
+    Ok(all)
 }
 
 /// Moves the other numbers to the front, in their order, and tells how many there are.
@@ -167,15 +207,21 @@ fn remove_at(lists: &mut Vec<NumberList>, place: usize, number: u32)
 }
 
 /// Takes the number out of the list of a key.
-fn take_out(keys: &[u32], lists: &mut Vec<NumberList>, key: usize, number: u32)
-    requires table { IsTable keys.now lists.old.items }
-    ensures table { IsTable keys.now lists.new.items }
-    ensures removes { Removes (by_key keys.now lists.old.items) (by_key keys.now lists.new.items) key number }
+fn take_out(keys: &[u32], packed: &mut Packed, lists: &mut Vec<NumberList>, key: usize, number: u32)
+    requires table { IsTable keys.now (packed.old ++ lists.old.items) }
+    ensures table { IsTable keys.now (packed.new ++ lists.new.items) }
+    ensures removes { Removes (by_key keys.now (packed.old ++ lists.old.items)) (by_key keys.now (packed.new ++ lists.new.items)) key number }
 {
     if key >= keys.len() || keys[key] == 0 {
         return;
     }
-    remove_at(lists, keys[key] as usize - 1, number);
+    let place = keys[key] as usize - 1;
+    let first = packed.len();
+    if place < first {
+        packed.remove(place, number);
+        return;
+    }
+    remove_at(lists, place - first, number);
 }
 
 impl Table {
@@ -186,6 +232,7 @@ impl Table {
         Table {
             alloc,
             keys: Vec::new(alloc),
+            packed: Packed::new(alloc),
             lists: Vec::new(alloc),
         }
     }
@@ -196,11 +243,12 @@ impl Table {
     {
         let mut keys = Vec::with_capacity(self.alloc, self.keys.len())?;
         keys.extend_from_slice(&self.keys)?;
-        let lists = copied(self.alloc, &self.lists)?;
+        let packed = all_packed(self.alloc, &self.packed, &self.lists)?;
         Ok(Table {
             alloc: self.alloc,
             keys,
-            lists,
+            packed,
+            lists: Vec::new(self.alloc),
         })
     }
 
@@ -217,7 +265,7 @@ impl Table {
         ensures { result.now ≡ at self.now key }
     {
         if key < self.keys.len() {
-            listed(&self.lists, self.keys[key])
+            listed(&self.packed, &self.lists, self.keys[key])
         } else {
             &[]
         }
@@ -239,7 +287,14 @@ impl Table {
         ensures err { OnErr result (self.new ≡ self.old) }
     {
         let alloc = self.alloc;
-        put(alloc, &mut self.keys, &mut self.lists, key, number)
+        put(
+            alloc,
+            &mut self.keys,
+            &self.packed,
+            &mut self.lists,
+            key,
+            number,
+        )
     }
 
     /// Makes room for the lists of so many keys more. Fails where memory is refused; each list is what it was.
@@ -268,6 +323,6 @@ impl Table {
     pub fn remove(&mut self, key: usize, number: u32)
         ensures { Removes self.old self.new key number }
     {
-        take_out(&self.keys, &mut self.lists, key, number);
+        take_out(&self.keys, &mut self.packed, &mut self.lists, key, number);
     }
 }
