@@ -8,6 +8,8 @@ mod form_lists;
 #[cfg(test)]
 mod forms;
 #[cfg(test)]
+mod listed_copies;
+#[cfg(test)]
 mod numbers;
 #[cfg(test)]
 mod owned_facts;
