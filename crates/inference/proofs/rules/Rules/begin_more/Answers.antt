@@ -1,4 +1,4 @@
-use Rattle.std.proofs.Common.{[]}
+use Rattle.std.proofs.Common.{[], arith}
 use Rattle.inference.specs.Completeness.{IsEntered}
 use Rattle.inference.proofs.Growth.{grows_same, grows_trans}
 use Rattle.inference.proofs.Drawing.{concluded_still, draws, each_next, each, drawn, entered_still}
@@ -22,5 +22,5 @@ returns c =
     let s = c.draw_different.ensures.grows in
     let t = grows_trans c.draw.ensures.grows s in
     draws (grows_trans c.loop-number.invariant.grows t) (drawn k [] c.draw_different.new.facts (λ form f owed. owed) (concluded_still s [] c.in_ok-draw.ensures.drawn)
-    (λ x there. entered_still t x (each (λ y. IsEntered k y c.loop-number.facts) k.roots c.roots-roots.result.now.items c.loop-number.number c.roots-roots.ensures c.loop-number-test.false c.loop-number.invariant.entered x there))
+    (λ x there. entered_still t x (each (λ y. IsEntered k y c.loop-number.facts) k.roots c.roots-roots.result.now.items c.loop-number.number c.roots-roots.ensures (omega (arith, c.len-number-end.ensures, c.loop-number-test.false)) c.loop-number.invariant.entered x there))
     (λ g e. absurd (cc)) (λ e. c.in_ok-draw_different.ensures.drawn) (λ g h e. absurd (cc)))
