@@ -46,6 +46,13 @@ pub record MayList (old new : Index) (number : ℕ) (fact : Fact) (is_second is_
   pub second_premises : MayListIn (IsSecondFrom is_second) old.second_premises new.second_premises number fact
   pub fillers : MayListIn (IsFillerIn is_filler) old.fillers new.fillers number fact
 
+-- both list the same, but for the second premises, of which it says nothing
+pub record IsSameButForSeconds (old new : Index) : Type 0 where
+  pub classes : new.classes ≡ old.classes
+  pub from : new.from ≡ old.from
+  pub into : new.into ≡ old.into
+  pub fillers : new.fillers ≡ old.fillers
+
 -- the fact is listed at each context that it speaks of
 pub record Lists (index : Index) (number : ℕ) (fact : Fact) (is_second is_filler : Bool) : Type 0 where
   pub classes : (x : Context) → IsIn x fact → Contains (at_context index.classes x) number

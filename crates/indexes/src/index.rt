@@ -1,7 +1,7 @@
 //! The index.
-ghost use Rattle.std.specs.Prelude.{◌≡◌, IfOk, OnOk};
-ghost use Rattle.indexes.specs.Contexts.{at_context, IsEmptyIndex};
-ghost use Rattle.indexes.specs.FactIndex.{MayList, Lists, Removes};
+ghost use Rattle.std.specs.Prelude.{◌≡◌, IfOk, OnErr, OnOk};
+ghost use Rattle.indexes.specs.Contexts.{at_context, AddsAt, EndsAt, IsEmptyIndex, IsSameAt};
+ghost use Rattle.indexes.specs.FactIndex.{IsSameButForSeconds, MayList, Lists, Removes};
 
 use crate::by_context::ByContext;
 use facts::{Context, Fact};
@@ -139,6 +139,17 @@ impl Index {
             }
         }
         Ok(())
+    }
+
+    /// Lists an edge among the second premises from its source alone, unless it is the last there. Fails where memory is refused; then each
+    /// list is what it was.
+    pub fn add_second_premise(&mut self, number: u32, source: Context) -> Result<(), AllocError>
+        ensures others { IsSameButForSeconds self.old self.new }
+        ensures ok { OnOk result (AddsAt self.old.second_premises self.new.second_premises source number) }
+        ensures last { OnOk result (EndsAt self.old.second_premises self.new.second_premises source number) }
+        ensures err { OnErr result (IsSameAt self.old.second_premises self.new.second_premises) }
+    {
+        self.second_premises.add(source, number)
     }
 
     /// Takes the number of a fact out of the lists of the fact's contexts, wherever it stands there. It takes no memory.
