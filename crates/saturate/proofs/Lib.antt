@@ -15,6 +15,7 @@ pub mod Runs
 pub mod EqualForms
 pub mod NewForms
 pub mod NewLists
+pub mod NewSeconds
 pub mod Staying
 pub mod Removing
 pub mod Summaries

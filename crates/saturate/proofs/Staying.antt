@@ -1,5 +1,6 @@
--- What the index lists is right still where no form that is added is a chain, and what the roots lead to where none makes a property reflexive.
-use Rattle.std.proofs.Common.{◌≡◌, ℕ, zero, suc, ◌+◌, inl, inr, ⊎_elim, List, [], ◌∷◌, ◌++◌, drop, length, slice_get, Some, None, Contains, refl, sym, ap, ◌∙◌, subst, arith}
+-- What the index lists is right still where the edges that added chains need as second premises are listed, and what the roots lead to where no
+-- form makes a property reflexive.
+use Rattle.std.proofs.Common.{◌≡◌, ℕ, zero, suc, ◌+◌, ◌⊎◌, inl, inr, ⊎_elim, List, [], ◌∷◌, ◌++◌, drop, length, slice_get, Some, None, Contains, refl, sym, ap, ◌∙◌, subst, arith}
 use Rattle.std.proofs.lemmas.List.Elements.{Contains-append_cases}
 use Rattle.normal_forms.specs.Apart.{AreContinuedBy}
 use Rattle.normal_forms.specs.declared.apart.ApartLists.{ApartLists}
@@ -14,21 +15,23 @@ use Rattle.facts.specs.declared.contexts.Fact.{Fact}
 use Rattle.facts.specs.declared.contexts.Fact.TheVariants.{In, Edge}
 use Rattle.facts.specs.Closure.{Problem, FromTwo, in_thing, in_itself, by_form, unsatisfiable, loop}
 use Rattle.indexes.specs.declared.index.Index.{Index}
+use Rattle.indexes.specs.Contexts.{at_context}
 use Rattle.indexes.specs.FactIndex.{IsFrom, IsIn}
 use Rattle.indexes.proofs.Parts.{part_same}
 use Rattle.inference.specs.Derivations.{Derived}
-use Rattle.inference.specs.Completeness.{IsCompleteUpToRedundancy, IsRedundantAsSecond}
+use Rattle.inference.specs.Completeness.{EndsAbove, IsCompleteUpToRedundancy, IsRedundantAsSecond}
 use Rattle.inference.specs.Visits.{IsNotCarried}
 use Rattle.inference.proofs.Lists.{Contains-from_slice_get, slice_get-from_Contains}
 use Rattle.saturate.specs.Requests.{Asks, IsAskedAnew}
 use Rattle.saturate.specs.GoingOn.{HasEntered}
-use Rattle.saturate.specs.Growth.{with_more, EachFrom, IsGrownFrom, KeepsServed, LeavesEntries, LeavesLists}
+use Rattle.saturate.specs.Growth.{with_more, EachFrom, IsGrownFrom, KeepsServed, LeavesEntries}
 use Rattle.saturate.specs.IndexedFacts.{ListsFacts}
+use Rattle.saturate.specs.NewSeconds.{IsListedFor}
 use Rattle.saturate.proofs.Entering.{entered}
 use Rattle.saturate.proofs.Extending.{below_cases, new_or_there, redundant_more}
 use Rattle.saturate.proofs.Listing.{fewer}
 
-module _ (k : Problem) (forms : List Form) (lists : ApartLists) (roots : List Context) (continued : AreContinuedBy k.apart lists) (leave : (form : Form) → Contains forms form → LeavesLists form) where
+module _ (k : Problem) (forms : List Form) (lists : ApartLists) (roots : List Context) (continued : AreContinuedBy k.apart lists) where
   -- no path from the property of an edge is new that no form asks for
   below_still : (x y : Context) (p q : PropId2) → ¬ IsAskedAnew k (with_more k forms lists roots) (Edge x p y) → IsAtOrBelow (k.forms ++ forms) p q → IsAtOrBelow k.forms p q
   below_still x y p q unasked path = ⊎_elim (λ before. before) (λ asks. absurd (unasked (inl (asks x y)))) (below_cases k.forms forms p q path)
@@ -66,21 +69,22 @@ module _ (k : Problem) (forms : List Form) (lists : ApartLists) (roots : List Co
   restriction_still (N10 _ _) x q y c z f w = absurd w
   restriction_still (N12 _ _ _) x q y c z f w = absurd w
 
-  -- a form that gives something from two facts of which the second is an edge is a chain
-  chain : (form : Form) (g f : Fact) (z : Context) (q : PropId2) (v : Context) → FromTwo (with_more k forms lists roots) form g (Edge z q v) f → ¬ LeavesLists form
-  chain (N6 _ _ _) g f z q v w = λ leaves. leaves
-  chain (N5 _ _) g f z q v w = absurd w
-  chain (N7 _) g f z q v w = absurd w
-  chain (N1 _ _) g f z q v w = absurd w
-  chain (N2 _ _ _) (In _ _) f z q v w = absurd w
-  chain (N2 _ _ _) (Edge _ _ _) f z q v w = absurd w
-  chain (N3 _ _ _) g f z q v w = absurd w
-  chain (N4 _ _ _) (In _ _) f z q v w = absurd w
-  chain (N4 _ _ _) (Edge _ _ _) f z q v w = absurd w
-  chain (N8 _ _) g f z q v w = absurd w
-  chain (N9 _ _ _) g f z q v w = absurd w
-  chain (N10 _ _) g f z q v w = absurd w
-  chain (N12 _ _ _) g f z q v w = absurd w
+  -- a form that gives something from two facts of which the second is an edge is a chain that ends with a property at or above that of the edge
+  ends : (form : Form) (g f : Fact) (z : Context) (q : PropId2) (v : Context) → FromTwo (with_more k forms lists roots) form g (Edge z q v) f → EndsAbove (k.forms ++ forms) q form
+  ends (N6 _ _ _) (Edge _ _ _) f z q v w = w.1
+  ends (N6 _ _ _) (In _ _) f z q v w = absurd w
+  ends (N5 _ _) g f z q v w = absurd w
+  ends (N7 _) g f z q v w = absurd w
+  ends (N1 _ _) g f z q v w = absurd w
+  ends (N2 _ _ _) (In _ _) f z q v w = absurd w
+  ends (N2 _ _ _) (Edge _ _ _) f z q v w = absurd w
+  ends (N3 _ _ _) g f z q v w = absurd w
+  ends (N4 _ _ _) (In _ _) f z q v w = absurd w
+  ends (N4 _ _ _) (Edge _ _ _) f z q v w = absurd w
+  ends (N8 _ _) g f z q v w = absurd w
+  ends (N9 _ _ _) g f z q v w = absurd w
+  ends (N10 _ _) g f z q v w = absurd w
+  ends (N12 _ _ _) g f z q v w = absurd w
 
   -- a form that gives something from an edge and a class asks for the class
   restriction : (form : Form) (x : Context) (q : PropId2) (y : Context) (c : Class2) (z : Context) (f : Fact) → FromTwo (with_more k forms lists roots) form (Edge x q y) (In c z) f → Asks (k.forms ++ forms) form (In c z)
@@ -96,18 +100,26 @@ module _ (k : Problem) (forms : List Form) (lists : ApartLists) (roots : List Co
   restriction (N10 _ _) x q y c z f w = absurd w
   restriction (N12 _ _ _) x q y c z f w = absurd w
 
-  redundant_edge : (d : Derived) (z : Context) (q : PropId2) (v : Context) → ¬ IsAskedAnew k (with_more k forms lists roots) (Edge z q v) → IsRedundantAsSecond k d (Edge z q v) → IsRedundantAsSecond (with_more k forms lists roots) d (Edge z q v)
-  redundant_edge d z q v unasked redundant f _ _ _ (in_thing c) = absurd c
-  redundant_edge d z q v unasked redundant f _ _ _ (in_itself c) = absurd c
-  redundant_edge d z q v unasked redundant f h _ _ (by_form n form at gives) = ⊎_elim
+  -- none of the added forms is a chain that ends with the property, or with one above it
+  abbrev NoneEnds : PropId2 → Type 0
+  NoneEnds q = (form : Form) → Contains forms form → ¬ EndsAbove (k.forms ++ forms) q form
+
+  -- where the fact of that number is an edge, it is listed as a second premise, or no added chain needs it as one
+  abbrev IsListed : List Fact → Index → ℕ → Type 0
+  IsListed facts index n = (x : Context) (p : PropId2) (y : Context) → slice_get facts n ≡ Some (Edge x p y) → Contains (at_context index.second_premises x) n ⊎ NoneEnds p
+
+  redundant_edge : (d : Derived) (z : Context) (q : PropId2) (v : Context) → NoneEnds q → ¬ IsAskedAnew k (with_more k forms lists roots) (Edge z q v) → IsRedundantAsSecond k d (Edge z q v) → IsRedundantAsSecond (with_more k forms lists roots) d (Edge z q v)
+  redundant_edge d z q v none unasked redundant f _ _ _ (in_thing c) = absurd c
+  redundant_edge d z q v none unasked redundant f _ _ _ (in_itself c) = absurd c
+  redundant_edge d z q v none unasked redundant f h _ _ (by_form n form at gives) = ⊎_elim
       (λ before.
       let m = slice_get-from_Contains k.forms form before in
       let w = chain_still form f h z q v unasked gives in
       redundant_more k forms lists roots continued d w.0 (Edge z q v) h m.0 n form m.1 at (redundant w.0 h _ (Some m.0) (by_form m.0 form m.1 w.1)))
-      (λ new. absurd (chain form f h z q v gives (leave form new)))
+      (λ new. absurd (none form new (ends form f h z q v gives)))
       (Contains-append_cases k.forms forms form (Contains-from_slice_get (k.forms ++ forms) n form at))
-  redundant_edge d z q v unasked redundant f h _ _ (unsatisfiable b) = absurd (redundant f h _ None (unsatisfiable b))
-  redundant_edge d z q v unasked redundant f _ _ _ (loop u m form at l c) = absurd c
+  redundant_edge d z q v none unasked redundant f h _ _ (unsatisfiable b) = absurd (redundant f h _ None (unsatisfiable b))
+  redundant_edge d z q v none unasked redundant f _ _ _ (loop u m form at l c) = absurd c
 
   uncarried : (c : Class2) (z : Context) → ¬ IsAskedAnew k (with_more k forms lists roots) (In c z) → IsNotCarried k (In c z) → IsNotCarried (with_more k forms lists roots) (In c z)
   uncarried c z unasked not (In _ _) edge _ _ h gives = absurd edge
@@ -120,22 +132,26 @@ module _ (k : Problem) (forms : List Form) (lists : ApartLists) (roots : List Co
   uncarried c z unasked not (Edge x q y) edge _ _ h (unsatisfiable b) = not (Edge x q y) edge _ None h (unsatisfiable b)
   uncarried c z unasked not (Edge x q y) edge _ _ _ (loop u m form at l a) = absurd a
 
-  redundant_from : (d : Derived) (x : Context) (f : Fact) → IsFrom x f → ¬ IsAskedAnew k (with_more k forms lists roots) f → IsRedundantAsSecond k d f → IsRedundantAsSecond (with_more k forms lists roots) d f
-  redundant_from d x (In _ _) h unasked redundant = absurd h
-  redundant_from d x (Edge z q v) h unasked redundant = redundant_edge d z q v unasked redundant
+  second_still : (d : Derived) (index : Index) (n : ℕ) (x : Context) (f : Fact) → IsFrom x f → slice_get d.facts n ≡ Some f → IsListed d.facts index n → ¬ IsAskedAnew k (with_more k forms lists roots) f → IsRedundantAsSecond k d f
+      → Contains (at_context index.second_premises x) n ⊎ IsRedundantAsSecond (with_more k forms lists roots) d f
+  second_still d index n x (In _ _) h at listed unasked redundant = absurd h
+  second_still d index n x (Edge z q v) h at listed unasked redundant = ⊎_elim
+      (λ here. inl (subst (λ (u : Context). Contains (at_context index.second_premises u) n) h here))
+      (λ none. inr (redundant_edge d z q v none unasked redundant))
+      (listed z q v at)
 
   uncarried_in : (x : Context) (f : Fact) → IsIn x f → ¬ IsAskedAnew k (with_more k forms lists roots) f → IsNotCarried k f → IsNotCarried (with_more k forms lists roots) f
   uncarried_in x (In c z) h unasked not = uncarried c z unasked not
   uncarried_in x (Edge _ _ _) h unasked not = absurd h
 
   -- of the facts that are listed those that no new form asks for are listed by all forms
-  listed_by_more : {d : Derived} {w m : List ℕ} {index : Index} (now : List ℕ) → KeepsServed k (with_more k forms lists roots) d.facts w now → ListsFacts k d w m index → ListsFacts (with_more k forms lists roots) d now m index
-  listed_by_more {d} {w} {m} {index} now keeps s = record {
+  listed_by_more : {d : Derived} {w m : List ℕ} {index : Index} (now : List ℕ) → ((n : ℕ) → IsListed d.facts index n) → KeepsServed k (with_more k forms lists roots) d.facts w now → ListsFacts k d w m index → ListsFacts (with_more k forms lists roots) d now m index
+  listed_by_more {d} {w} {m} {index} now each keeps s = record {
     by_context = (fewer now m s (λ n c. ((keeps n).0 c).0) (part_same m)).by_context;
     second_premises = record {
       all = λ x n f c at h. ⊎_elim
           (λ here. inl here)
-          (λ redundant. inr (redundant_from d x f h (λ asked. ((keeps n).0 c).1 (f, at, asked)) redundant))
+          (λ redundant. second_still d index n x f h at (each n) (λ asked. ((keeps n).0 c).1 (f, at, asked)) redundant)
           (s.second_premises.all x n f ((keeps n).0 c).0 at h);
       only = s.second_premises.only;
     };
@@ -165,10 +181,17 @@ added P from all each form there =
     let at = slice_get-from_Contains (drop from all) form there in
     each (from + at.0) form (omega arith) (sym (slice_get_drop from all at.0) ∙ at.1)
 
-pub listed_then : {k j : Problem} {d : Derived} {w m : List ℕ} {index : Index} (from : ℕ) → IsGrownFrom from k j → EachFrom LeavesLists from j.forms → (now : List ℕ) → KeepsServed k j d.facts w now → ListsFacts k d w m index → ListsFacts j d now m index
-listed_then {k} {j} {d} {w} {m} {index} from is leave now keeps s =
+-- what is listed for the forms from that number on is listed for those that are added
+listed_for_added : {k j : Problem} (from : ℕ) (is : IsGrownFrom from k j) (facts : List Fact) (index : Index) (n : ℕ) → IsListedFor from j.forms facts index n → IsListed k (drop from j.forms) j.apart is.roots is.lists facts index n
+listed_for_added {k} {j} from is facts index n listed x p y at = ⊎_elim
+    (λ there. inl there)
+    (λ none. inr (λ form new. subst (λ (forms : List Form). ¬ EndsAbove forms p form) (ap (λ (i : Problem). i.forms) is.problem) (added (λ f. ¬ EndsAbove j.forms p f) from j.forms none form new)))
+    (listed x p y at)
+
+pub listed_then : {k j : Problem} {d : Derived} {w m : List ℕ} {index : Index} (from : ℕ) → IsGrownFrom from k j → ((n : ℕ) → IsListedFor from j.forms d.facts index n) → (now : List ℕ) → KeepsServed k j d.facts w now → ListsFacts k d w m index → ListsFacts j d now m index
+listed_then {k} {j} {d} {w} {m} {index} from is each now keeps s =
     subst (λ (i : Problem). ListsFacts i d now m index) (sym is.problem)
-    (listed_by_more k (drop from j.forms) j.apart is.roots is.lists (added LeavesLists from j.forms leave) now (subst (λ (i : Problem). KeepsServed k i d.facts w now) is.problem keeps) s)
+    (listed_by_more k (drop from j.forms) j.apart is.roots is.lists now (λ n. listed_for_added from is d.facts index n (each n)) (subst (λ (i : Problem). KeepsServed k i d.facts w now) is.problem keeps) s)
 
 pub entered_then : {k j : Problem} {d : Derived} {served : List ℕ} (from : ℕ) → IsGrownFrom from k j → EachFrom LeavesEntries from j.forms → IsCompleteUpToRedundancy k d served → HasEntered j (length k.roots) served d
 entered_then {k} {j} {d} {served} from is leave complete =

@@ -33,8 +33,7 @@ pub record GoOn (k : Problem) (most : ℕ) (old new : Derived) (q r : Queued) (i
   pub waiting : r.waiting ≡ q.waiting
   pub listed : ListsFacts k new r.served r.served index
 
--- facts, their turns and the index are what they were
-pub record Stay (old new : Derived) (q r : Queued) (i j : Index) : Type 0 where
+-- facts and their turns are what they were
+pub record Stay (old new : Derived) (q r : Queued) : Type 0 where
   pub facts : new ≡ old
   pub queue : r ≡ q
-  pub index : j ≡ i

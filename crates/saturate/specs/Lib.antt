@@ -7,6 +7,7 @@ pub mod Naming
 pub mod Requests
 pub mod Flags
 pub mod Growth
+pub mod NewSeconds
 pub mod GoingOn
 pub mod Counts
 pub mod Summaries

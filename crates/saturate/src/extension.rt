@@ -4,7 +4,8 @@ ghost use Rattle.inference.specs.Derivations.{IsDerived};
 ghost use Rattle.normal_forms.specs.Apart.{AreContinuedBy};
 ghost use Rattle.saturate.specs.Flags.{IsFlagged, ListsServedStill, ListsThoseKept, ListsUnlessFlagged, kept};
 ghost use Rattle.saturate.specs.GoingOn.{GoOn, HasEntered, HaveTurns, IsBegun, Stay};
-ghost use Rattle.saturate.specs.Growth.{EachFrom, IsGrownFrom, KeepsServed, LeavesEntries, LeavesLists};
+ghost use Rattle.saturate.specs.Growth.{EachFrom, IsGrownFrom, KeepsServed, LeavesEntries};
+ghost use Rattle.saturate.specs.NewSeconds.{ListsMoreSeconds};
 ghost use Rattle.saturate.specs.Requests.{IsAsked, IsAskedAnew, problem_of};
 ghost use Rattle.saturate.specs.Turns.{option_list};
 ghost use Rattle.inference.specs.Completeness.{AreEntered, IsCompleteUpToRedundancy};
@@ -18,6 +19,7 @@ use crate::named_classes::named_classes;
 use crate::named_facts::{ask_by_class, flags_of_named, sought};
 use crate::new_forms::new_forms;
 use crate::new_lists::new_lists;
+use crate::new_seconds::list_seconds;
 use crate::queue::Queue;
 use axioms::Memory;
 use facts::Fact;
@@ -234,7 +236,8 @@ fn listed_anew<W: WorkList>(
     requires entered { (many : ℕ) → entered ≡ Some many → HasEntered ground.now many queue.old.served facts.old }
     ensures goes_on { OnOk result (GoOn ground.now u32.MAX facts.old facts.new queue.old queue.new index.new) }
     ensures served { OnOk result (queue.new.served ≡ kept flags.now queue.old.served) }
-    ensures err { OnErr result (Stay facts.old facts.new queue.old queue.new index.old index.new) }
+    ensures err { OnErr result (Stay facts.old facts.new queue.old queue.new) }
+    ensures index { OnErr result (index.new ≡ index.old) }
 {
     let served = queue.numbers(alloc)?;
     let again = indexed(alloc, ground, facts, &served, flags)?;
@@ -249,25 +252,6 @@ fn listed_anew<W: WorkList>(
             Err(error)
         }
     }
-}
-
-/// Whether the form is no chain.
-fn leaves_lists(form: Form) -> bool
-    ensures { IsTrue result ↔ LeavesLists form }
-{
-    !matches!(form, Form::N6(..))
-}
-
-/// Whether none of the forms from that number on is a chain.
-fn leave_lists(forms: &FormList, from: usize) -> bool
-    ensures { IsTrue result ↔ EachFrom LeavesLists from forms.now }
-{
-    for number in from..forms.len() {
-        if !leaves_lists(forms.at(number)) {
-            return false;
-        }
-    }
-    true
 }
 
 /// Whether the form makes no property reflexive.
@@ -367,7 +351,8 @@ fn listed_still<W: WorkList>(
     requires listed { ListsFacts ground.now facts.old (kept flags.now queue.old.served) (queue.old.served ++ option_list queue.old.hand) index.old }
     ensures goes_on { OnOk result (GoOn ground.now u32.MAX facts.old facts.new queue.old queue.new index.new) }
     ensures served { OnOk result (queue.new.served ≡ kept flags.now queue.old.served) }
-    ensures err { OnErr result (Stay facts.old facts.new queue.old queue.new index.old index.new) }
+    ensures err { OnErr result (Stay facts.old facts.new queue.old queue.new) }
+    ensures index { OnErr result (index.new ≡ index.old) }
 {
     let hand = queue.hand();
     begun_again(alloc, ground, facts, queue, flags, entered)?;
@@ -375,9 +360,9 @@ fn listed_still<W: WorkList>(
     Ok(())
 }
 
-/// Goes on from more roots, more lists of what is apart, and more forms, from that number on. The index lists the served facts; where no added form is a
-/// chain, and few numbers stand beside those of facts that are pending again, it is not made anew. Changes nothing where memory is
-/// refused.
+/// Goes on from more roots, more lists of what is apart, and more forms, from that number on. The index lists the served facts; where few
+/// numbers stand beside those of facts that are pending again, it is not made anew, and the edges that an added chain needs as second
+/// premises are listed as such. Where memory is refused, that is all that may have changed.
 pub(crate) fn carry_on<W: WorkList>(
     alloc: Global,
     earlier: &Ground,
@@ -396,14 +381,15 @@ pub(crate) fn carry_on<W: WorkList>(
     requires listed { ListsServed earlier.now facts.old queue.old index.old }
     ensures goes_on { OnOk result (GoOn ground.now u32.MAX facts.old facts.new queue.old queue.new index.new) }
     ensures served { OnOk result (KeepsServed earlier.now ground.now facts.old.facts queue.old.served queue.new.served) }
-    ensures err { OnErr result (Stay facts.old facts.new queue.old queue.new index.old index.new) }
+    ensures err { OnErr result (Stay facts.old facts.new queue.old queue.new) }
+    ensures index { OnErr result (ListsMoreSeconds facts.old.facts index.old index.new) }
 {
     let flags = flags_of(alloc, earlier, ground, from, facts, queue)?;
     let few = queue.served().saturating_mul(LOOKS_FOR_A_FACT);
     let all = ground.problem().forms();
     let entered = entered_roots(earlier.problem(), all, from);
-    let leaves = leave_lists(all, from);
-    if leaves && looked_at(index, facts, &flags) < few {
+    if looked_at(index, facts, &flags) < few {
+        list_seconds(alloc, ground, from, facts, index)?;
         return listed_still(alloc, ground, facts, queue, index, &flags, entered);
     }
     listed_anew(alloc, ground, facts, queue, index, &flags, entered)

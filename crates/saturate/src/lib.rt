@@ -15,6 +15,7 @@ mod named_classes;
 mod named_facts;
 mod new_forms;
 mod new_lists;
+mod new_seconds;
 mod order;
 mod queue;
 mod settled;

@@ -1,7 +1,10 @@
-use Rattle.std.proofs.Common.{ℕ, List}
-use Rattle.std.proofs.lemmas.Result.{on_ok_weaker}
+use Rattle.std.proofs.Common.{ℕ, List, sym, subst}
+use Rattle.indexes.specs.declared.index.Index.{Index}
+use Rattle.std.proofs.lemmas.Result.{on_err_weaker, on_ok_weaker}
 use Rattle.saturate.specs.Flags.{kept}
+use Rattle.saturate.specs.NewSeconds.{ListsMoreSeconds}
 use Rattle.saturate.proofs.Flagging.{keeps_served, keeps_served_then}
+use Rattle.saturate.proofs.NewSeconds.{listed_with_more, same_seconds}
 use Rattle.saturate.proofs.Staying.{entered_then, listed_then}
 use Rattle.saturate.proofs.extension.carry_on.Goals as goal
 
@@ -9,9 +12,9 @@ pub listed_still-requires-clause-listed : goal.listed_still-requires-clause-list
 listed_still-requires-clause-listed g c =
     let served : List ℕ = c.args.queue.now.served in
     let flags = c.in_ok-flags.flags in
-    listed_then c.args.from c.requires.grown (rw (c.forms-all.ensures, c.problem.ensures) at (c.leave_lists-leaves.ensures.0 c.if-leaves.true)) (kept flags served)
+    listed_then c.args.from c.requires.grown c.in_ok-list_seconds.ensures.listed (kept flags served)
     (keeps_served c.args.earlier.now c.args.ground.now c.args.facts.now.facts flags served c.in_ok-flags.ensures.flags)
-    c.requires.listed
+    (listed_with_more c.in_ok-list_seconds.ensures.more c.requires.listed)
 
 pub returns-then-looked_at-few-clause-served : goal.returns-then-looked_at-few-clause-served
 returns-then-looked_at-few-clause-served g c =
@@ -36,3 +39,15 @@ pub listed_anew-requires-clause-entered : goal.listed_anew-requires-clause-enter
 listed_anew-requires-clause-entered g c = λ many is.
     let w = c.entered_roots-entered.ensures.some many is in
     rw (w.0, c.problem-2.ensures) (entered_then c.args.from c.requires.grown (rw (c.forms-all.ensures, c.problem.ensures) at w.1) c.requires.complete)
+
+pub returns-then-looked_at-few-clause-index : goal.returns-then-looked_at-few-clause-index
+returns-then-looked_at-few-clause-index g c =
+    on_err_weaker c.listed_still.result
+    (λ is. subst (λ (i : Index). ListsMoreSeconds c.args.facts.now.facts c.args.index.now i) (sym is) c.in_ok-list_seconds.ensures.more)
+    c.listed_still.ensures.index
+
+pub returns-clause-index : goal.returns-clause-index
+returns-clause-index g c =
+    on_err_weaker c.listed_anew.result
+    (λ is. subst (λ (i : Index). ListsMoreSeconds c.args.facts.now.facts c.args.index.now i) (sym is) (same_seconds c.args.facts.now.facts c.args.index.now))
+    c.listed_anew.ensures.index

@@ -3,6 +3,7 @@ use Rattle.normal_forms.specs.declared.apart.ApartLists.{ApartLists}
 use Rattle.normal_forms.specs.declared.forms.Form.{Form}
 use Rattle.saturate.specs.Growth.{with_more}
 use Rattle.saturate.proofs.Extending.{derived_then, extended, listed_again, parted}
+use Rattle.saturate.proofs.NewSeconds.{listed_with_more}
 use Rattle.saturate.proofs.Turns.{named_still}
 use Rattle.saturate.proofs.state.State.extend.Goals as goal
 use Rattle.saturate.proofs.state.State.extend.Goals.{In_ok-ground}
@@ -47,6 +48,10 @@ returns-in-Ok-clause-grown g c = rw (← c.self.view_is) (record {
 pub returns-in-Ok-clause-served : goal.returns-in-Ok-clause-served
 returns-in-Ok-clause-served g c = rw (← c.self.view_is) c.in-Ok.ensures.served
 
--- a growth that was refused changes nothing
+-- a growth that was refused changes nothing, but that the index may list more second premises
 pub invariant_of-self-in-Err : goal.invariant_of-self-in-Err
-invariant_of-self-in-Err g c = rw (c.in-Err.ensures.err.facts, c.in-Err.ensures.err.queue, c.in-Err.ensures.err.index) c.self.invariant
+invariant_of-self-in-Err g c = rw (c.in-Err.ensures.err.facts, c.in-Err.ensures.err.queue) (
+  c.self.invariant.0,
+  listed_with_more c.in-Err.ensures.index c.self.invariant.1,
+  c.self.invariant.2,
+)

@@ -1,7 +1,7 @@
 use Rattle.std.proofs.Common.{◌≡◌, ◌<◌, ◌≤◌, ℕ, slice_get, Some}
 use Rattle.normal_forms.specs.declared.forms.Form.{Form}
 use Rattle.saturate.specs.Growth.{LeavesLists}
-use Rattle.saturate.proofs.extension.leave_lists.Given as goal
+use Rattle.saturate.proofs.new_seconds.leave_lists.Given as goal
 
 abbrev pub invariant-loop-number : goal.invariant-loop-number
 invariant-loop-number l = (n : ℕ) (form : Form) → l.from ≤ n → n < l.number → slice_get l.forms n ≡ Some form → LeavesLists form

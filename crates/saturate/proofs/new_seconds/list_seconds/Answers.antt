@@ -1,0 +1,21 @@
+use Rattle.std.proofs.Common.{arith, below_more}
+use Rattle.saturate.specs.NewSeconds.{IsListedFor}
+use Rattle.saturate.proofs.NewSeconds.{all_listed_for, more_seconds, still_listed_for}
+use Rattle.saturate.proofs.new_seconds.list_seconds.Goals as goal
+
+pub returns-in_err-list_second-clause-more : goal.returns-in_err-list_second-clause-more
+returns-in_err-list_second-clause-more c = more_seconds c.loop-number.invariant.more c.in_err-list_second.ensures.more
+
+pub loop-number-preserved : goal.loop-number-preserved
+loop-number-preserved c =
+    let from = c.args.from in
+    let forms = c.args.ground.now.forms in
+    let facts = c.args.facts.now.facts in
+    let more = c.in_ok-list_second.ensures.more in
+    record {
+      more = more_seconds c.loop-number.invariant.more more;
+      each = below_more (IsListedFor from forms facts c.list_second.new.index) c.loop-number.number (λ n low. still_listed_for from forms n more (c.loop-number.invariant.each n low)) c.in_ok-list_second.ensures.listed;
+    }
+
+pub returns-clause-listed : goal.returns-clause-listed
+returns-clause-listed c = all_listed_for c.args.from c.args.ground.now.forms c.args.facts.now.facts c.loop-number.index c.loop-number.number (omega (arith, c.loop-number-test.false, c.len-number-end.ensures.value)) c.loop-number.invariant.each
