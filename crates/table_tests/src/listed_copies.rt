@@ -61,15 +61,22 @@ fn lists_of_a_copy_change_alone(rt: HostRuntime) -> Result<(), Fail> {
     Ok(())
 }
 
+/// Whether these are the edges from the first context and those into the second, and of the first those that are second premises.
+fn has_edges(index: &Index, edges: &[u32], seconds: &[u32]) -> bool {
+    index.edges_from(FIRST) == edges
+        && index.edges_into(SECOND) == edges
+        && index.second_premises_from(FIRST) == seconds
+}
+
 #[test]
 fn edge_is_a_second_premise_too(rt: HostRuntime) -> Result<(), Fail> {
     let mut index = Index::new(rt.alloc());
     index.add(6, EDGE, false, false)?;
+    index.add(7, EDGE, false, false)?;
+    assert!(rt; has_edges(&index, &[6, 7], &[]), "as an edge");
     index.add_second_premise(6, FIRST)?;
     index.add_second_premise(6, FIRST)?;
-    assert!(rt; index.second_premises_from(FIRST) == &[6], "once");
-    assert!(rt; index.edges_from(FIRST) == &[6], "from");
-    assert!(rt; index.edges_into(SECOND) == &[6], "into");
+    assert!(rt; has_edges(&index, &[6, 7], &[6]), "once");
     assert!(rt;
         index.second_premises_from(SECOND).is_empty(),
         "from its source"
