@@ -16,6 +16,7 @@ use Rattle.indexes.specs.FormsUnderKeys.{IsUnder}
 use Rattle.indexes.specs.Keys.{by_end, property_key}
 use Rattle.inference.specs.Derivations.{Derived}
 use Rattle.inference.specs.Visits.{IsNotCarried}
+use Rattle.inference.specs.Completeness.{IsRedundantAsSecond}
 use Rattle.indexes.specs.declared.by_context.ByContext.{ByContext}
 use Rattle.inference.proofs.Lists.{one_value}
 use Rattle.saturate.specs.IndexedFacts.{ListsFacts, ListsNeeded}
@@ -69,31 +70,35 @@ no_second facts others same = record {
 }
 
 -- the edge that is read is that of its number
-pub listed_as : (from : ℕ) (forms : List Form) (facts : List Fact) (index : Index) (n : ℕ) (x : Context) (p : PropId2) (y : Context) → slice_get facts n ≡ Some (Edge x p y) → Contains (at_context index.second_premises x) n → IsListedFor from forms facts index n
-listed_as from forms facts index n x p y at there z q v is =
+pub listed_as : (from : ℕ) (k : Problem) (d : Derived) (index : Index) (n : ℕ) (x : Context) (p : PropId2) (y : Context) → slice_get d.facts n ≡ Some (Edge x p y) → Contains (at_context index.second_premises x) n → IsListedFor from k d index n
+listed_as from k d index n x p y at there z q v is =
     let same : Edge x p y ≡ Edge z q v = one_value _ (Edge x p y) (Edge z q v) at is in
     inl (subst (λ (u : Context). Contains (at_context index.second_premises u) n) (source same) there)
   where
     source : {a b : Context} {r s : PropId2} {c d : Context} → Edge a r c ≡ Edge b s d → a ≡ b
     source e = cc
 
-pub needed_by_none : (from : ℕ) (forms : List Form) (facts : List Fact) (index : Index) (n : ℕ) (x : Context) (p : PropId2) (y : Context) → slice_get facts n ≡ Some (Edge x p y) → NoneEndsFrom from forms p → IsListedFor from forms facts index n
-needed_by_none from forms facts index n x p y at none z q v is =
+pub needed_by_none : (from : ℕ) (k : Problem) (d : Derived) (index : Index) (n : ℕ) (x : Context) (p : PropId2) (y : Context) → slice_get d.facts n ≡ Some (Edge x p y) → NoneEndsFrom from k.forms p → IsListedFor from k d index n
+needed_by_none from k d index n x p y at none z q v is =
     let same : Edge x p y ≡ Edge z q v = one_value _ (Edge x p y) (Edge z q v) at is in
-    inr (subst (NoneEndsFrom from forms) (property same) none)
+    inr (inl (subst (NoneEndsFrom from k.forms) (property same) none))
   where
     property : {a b : Context} {r s : PropId2} {c d : Context} → Edge a r c ≡ Edge b s d → r ≡ s
     property e = cc
 
-pub no_edge : (from : ℕ) (forms : List Form) (facts : List Fact) (index : Index) (n : ℕ) (f : Fact) → slice_get facts n ≡ Some f → ((x : Context) (p : PropId2) (y : Context) → ¬ (f ≡ Edge x p y)) → IsListedFor from forms facts index n
-no_edge from forms facts index n f at other x p y is = absurd (other x p y (one_value _ f (Edge x p y) at is))
+-- an edge that need not be a second premise
+pub redundant_one : (from : ℕ) (k : Problem) (d : Derived) (index : Index) (n : ℕ) (x : Context) (p : PropId2) (y : Context) → slice_get d.facts n ≡ Some (Edge x p y) → IsRedundantAsSecond k d (Edge x p y) → IsListedFor from k d index n
+redundant_one from k d index n x p y at redundant z q v is = inr (inr (subst (IsRedundantAsSecond k d) (one_value _ (Edge x p y) (Edge z q v) at is) redundant))
 
-pub still_listed_for : {facts : List Fact} {old new : Index} (from : ℕ) (forms : List Form) (n : ℕ) → ListsMoreSeconds facts old new → IsListedFor from forms facts old n → IsListedFor from forms facts new n
-still_listed_for from forms n more listed x p y at = ⊎_elim (λ there. inl (more.kept x n there)) (λ none. inr none) (listed x p y at)
+pub no_edge : (from : ℕ) (k : Problem) (d : Derived) (index : Index) (n : ℕ) (f : Fact) → slice_get d.facts n ≡ Some f → ((x : Context) (p : PropId2) (y : Context) → ¬ (f ≡ Edge x p y)) → IsListedFor from k d index n
+no_edge from k d index n f at other x p y is = absurd (other x p y (one_value _ f (Edge x p y) at is))
+
+pub still_listed_for : {d : Derived} {old new : Index} (from : ℕ) (k : Problem) (n : ℕ) → ListsMoreSeconds d.facts old new → IsListedFor from k d old n → IsListedFor from k d new n
+still_listed_for from k n more listed x p y at = ⊎_elim (λ there. inl (more.kept x n there)) (λ none. inr none) (listed x p y at)
 
 -- past the facts there is nothing to list
-pub all_listed_for : (from : ℕ) (forms : List Form) (facts : List Fact) (index : Index) (end : ℕ) → length facts ≤ end → ((n : ℕ) → n < end → IsListedFor from forms facts index n) → (n : ℕ) → IsListedFor from forms facts index n
-all_listed_for from forms facts index end long each n x p y at = each n (omega (arith, slice_get_within facts n (Edge x p y) at, long)) x p y at
+pub all_listed_for : (from : ℕ) (k : Problem) (d : Derived) (index : Index) (end : ℕ) → length d.facts ≤ end → ((n : ℕ) → n < end → IsListedFor from k d index n) → (n : ℕ) → IsListedFor from k d index n
+all_listed_for from k d index end long each n x p y at = each n (omega (arith, slice_get_within d.facts n (Edge x p y) at, long)) x p y at
 
 -- ---- what the index lists is right still
 

@@ -105,8 +105,8 @@ module _ (k : Problem) (forms : List Form) (lists : ApartLists) (roots : List Co
   NoneEnds q = (form : Form) → Contains forms form → ¬ EndsAbove (k.forms ++ forms) q form
 
   -- where the fact of that number is an edge, it is listed as a second premise, or no added chain needs it as one
-  abbrev IsListed : List Fact → Index → ℕ → Type 0
-  IsListed facts index n = (x : Context) (p : PropId2) (y : Context) → slice_get facts n ≡ Some (Edge x p y) → Contains (at_context index.second_premises x) n ⊎ NoneEnds p
+  abbrev IsListed : Derived → Index → ℕ → Type 0
+  IsListed d index n = (x : Context) (p : PropId2) (y : Context) → slice_get d.facts n ≡ Some (Edge x p y) → Contains (at_context index.second_premises x) n ⊎ (NoneEnds p ⊎ IsRedundantAsSecond (with_more k forms lists roots) d (Edge x p y))
 
   redundant_edge : (d : Derived) (z : Context) (q : PropId2) (v : Context) → NoneEnds q → ¬ IsAskedAnew k (with_more k forms lists roots) (Edge z q v) → IsRedundantAsSecond k d (Edge z q v) → IsRedundantAsSecond (with_more k forms lists roots) d (Edge z q v)
   redundant_edge d z q v none unasked redundant f _ _ _ (in_thing c) = absurd c
@@ -132,12 +132,12 @@ module _ (k : Problem) (forms : List Form) (lists : ApartLists) (roots : List Co
   uncarried c z unasked not (Edge x q y) edge _ _ h (unsatisfiable b) = not (Edge x q y) edge _ None h (unsatisfiable b)
   uncarried c z unasked not (Edge x q y) edge _ _ _ (loop u m form at l a) = absurd a
 
-  second_still : (d : Derived) (index : Index) (n : ℕ) (x : Context) (f : Fact) → IsFrom x f → slice_get d.facts n ≡ Some f → IsListed d.facts index n → ¬ IsAskedAnew k (with_more k forms lists roots) f → IsRedundantAsSecond k d f
+  second_still : (d : Derived) (index : Index) (n : ℕ) (x : Context) (f : Fact) → IsFrom x f → slice_get d.facts n ≡ Some f → IsListed d index n → ¬ IsAskedAnew k (with_more k forms lists roots) f → IsRedundantAsSecond k d f
       → Contains (at_context index.second_premises x) n ⊎ IsRedundantAsSecond (with_more k forms lists roots) d f
   second_still d index n x (In _ _) h at listed unasked redundant = absurd h
   second_still d index n x (Edge z q v) h at listed unasked redundant = ⊎_elim
       (λ here. inl (subst (λ (u : Context). Contains (at_context index.second_premises u) n) h here))
-      (λ none. inr (redundant_edge d z q v none unasked redundant))
+      (λ rest. inr (⊎_elim (λ none. redundant_edge d z q v none unasked redundant) (λ now. now) rest))
       (listed z q v at)
 
   uncarried_in : (x : Context) (f : Fact) → IsIn x f → ¬ IsAskedAnew k (with_more k forms lists roots) f → IsNotCarried k f → IsNotCarried (with_more k forms lists roots) f
@@ -145,7 +145,7 @@ module _ (k : Problem) (forms : List Form) (lists : ApartLists) (roots : List Co
   uncarried_in x (Edge _ _ _) h unasked not = absurd h
 
   -- of the facts that are listed those that no new form asks for are listed by all forms
-  listed_by_more : {d : Derived} {w m : List ℕ} {index : Index} (now : List ℕ) → ((n : ℕ) → IsListed d.facts index n) → KeepsServed k (with_more k forms lists roots) d.facts w now → ListsFacts k d w m index → ListsFacts (with_more k forms lists roots) d now m index
+  listed_by_more : {d : Derived} {w m : List ℕ} {index : Index} (now : List ℕ) → ((n : ℕ) → IsListed d index n) → KeepsServed k (with_more k forms lists roots) d.facts w now → ListsFacts k d w m index → ListsFacts (with_more k forms lists roots) d now m index
   listed_by_more {d} {w} {m} {index} now each keeps s = record {
     by_context = (fewer now m s (λ n c. ((keeps n).0 c).0) (part_same m)).by_context;
     second_premises = record {
@@ -182,16 +182,19 @@ added P from all each form there =
     each (from + at.0) form (omega arith) (sym (slice_get_drop from all at.0) ∙ at.1)
 
 -- what is listed for the forms from that number on is listed for those that are added
-listed_for_added : {k j : Problem} (from : ℕ) (is : IsGrownFrom from k j) (facts : List Fact) (index : Index) (n : ℕ) → IsListedFor from j.forms facts index n → IsListed k (drop from j.forms) j.apart is.roots is.lists facts index n
-listed_for_added {k} {j} from is facts index n listed x p y at = ⊎_elim
+listed_for_added : {k j : Problem} (from : ℕ) (is : IsGrownFrom from k j) (d : Derived) (index : Index) (n : ℕ) → IsListedFor from j d index n → IsListed k (drop from j.forms) j.apart is.roots is.lists d index n
+listed_for_added {k} {j} from is d index n listed x p y at = ⊎_elim
     (λ there. inl there)
-    (λ none. inr (λ form new. subst (λ (forms : List Form). ¬ EndsAbove forms p form) (ap (λ (i : Problem). i.forms) is.problem) (added (λ f. ¬ EndsAbove j.forms p f) from j.forms none form new)))
+    (λ rest. inr (⊎_elim
+    (λ none. inl (λ form new. subst (λ (forms : List Form). ¬ EndsAbove forms p form) (ap (λ (i : Problem). i.forms) is.problem) (added (λ f. ¬ EndsAbove j.forms p f) from j.forms none form new)))
+    (λ redundant. inr (subst (λ (i : Problem). IsRedundantAsSecond i d (Edge x p y)) is.problem redundant))
+    rest))
     (listed x p y at)
 
-pub listed_then : {k j : Problem} {d : Derived} {w m : List ℕ} {index : Index} (from : ℕ) → IsGrownFrom from k j → ((n : ℕ) → IsListedFor from j.forms d.facts index n) → (now : List ℕ) → KeepsServed k j d.facts w now → ListsFacts k d w m index → ListsFacts j d now m index
+pub listed_then : {k j : Problem} {d : Derived} {w m : List ℕ} {index : Index} (from : ℕ) → IsGrownFrom from k j → ((n : ℕ) → IsListedFor from j d index n) → (now : List ℕ) → KeepsServed k j d.facts w now → ListsFacts k d w m index → ListsFacts j d now m index
 listed_then {k} {j} {d} {w} {m} {index} from is each now keeps s =
     subst (λ (i : Problem). ListsFacts i d now m index) (sym is.problem)
-    (listed_by_more k (drop from j.forms) j.apart is.roots is.lists now (λ n. listed_for_added from is d.facts index n (each n)) (subst (λ (i : Problem). KeepsServed k i d.facts w now) is.problem keeps) s)
+    (listed_by_more k (drop from j.forms) j.apart is.roots is.lists now (λ n. listed_for_added from is d index n (each n)) (subst (λ (i : Problem). KeepsServed k i d.facts w now) is.problem keeps) s)
 
 pub entered_then : {k j : Problem} {d : Derived} {served : List ℕ} (from : ℕ) → IsGrownFrom from k j → EachFrom LeavesEntries from j.forms → IsCompleteUpToRedundancy k d served → HasEntered j (length k.roots) served d
 entered_then {k} {j} {d} {served} from is leave complete =

@@ -11,7 +11,9 @@ use Rattle.facts.specs.declared.contexts.Fact.TheVariants.{Edge}
 use Rattle.indexes.specs.declared.index.Index.{Index}
 use Rattle.indexes.specs.Contexts.{at_context}
 use Rattle.indexes.specs.FactIndex.{IsFrom, IsSameButForSeconds}
-use Rattle.inference.specs.Completeness.{EndsAbove}
+use Rattle.facts.specs.Closure.{Problem}
+use Rattle.inference.specs.Derivations.{Derived}
+use Rattle.inference.specs.Completeness.{EndsAbove, IsRedundantAsSecond}
 use Rattle.saturate.specs.Requests.{IsSuchAt}
 use Rattle.saturate.specs.Growth.{EachFrom}
 
@@ -29,6 +31,7 @@ pub record ListsMoreSeconds (facts : List Fact) (old new : Index) : Type 0 where
   pub kept : (x : Context) (n : ℕ) → Contains (at_context old.second_premises x) n → Contains (at_context new.second_premises x) n
   pub only : (x : Context) (n : ℕ) → Contains (at_context new.second_premises x) n → Contains (at_context old.second_premises x) n ⊎ IsSuchAt (IsFrom x) facts n
 
--- where the fact of that number is an edge, it is listed as a second premise, or none of the forms from the other number on needs it as one
-abbrev pub IsListedFor : ℕ → List Form → List Fact → Index → ℕ → Type 0
-IsListedFor from forms facts index n = (x : Context) (p : PropId2) (y : Context) → slice_get facts n ≡ Some (Edge x p y) → Contains (at_context index.second_premises x) n ⊎ NoneEndsFrom from forms p
+-- where the fact of that number is an edge, it is listed as a second premise, or none of the forms from the other number on needs it as one, or it
+-- need not be one for any form
+abbrev pub IsListedFor : ℕ → Problem → Derived → Index → ℕ → Type 0
+IsListedFor from k d index n = (x : Context) (p : PropId2) (y : Context) → slice_get d.facts n ≡ Some (Edge x p y) → Contains (at_context index.second_premises x) n ⊎ (NoneEndsFrom from k.forms p ⊎ IsRedundantAsSecond k d (Edge x p y))

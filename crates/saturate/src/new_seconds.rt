@@ -12,7 +12,7 @@ use crate::ground::Ground;
 use axioms::{Memory, PropId};
 use facts::Fact;
 use indexes::{Index, IndexedProblem};
-use inference::KnownFacts;
+use inference::{KnownFacts, is_second_premise};
 use normal_forms::{Form, FormList, PropId2};
 use number_sets::Row;
 use property_closure::PropertyClosure;
@@ -141,7 +141,8 @@ fn stands_in(list: &[u32], number: u32) -> bool
     list.len() <= SHORT && list.contains(&number)
 }
 
-/// Lists the fact of that number as a second premise, where it is an edge that one of the forms from the other number on needs as one.
+/// Lists the fact of that number as a second premise, where it is an edge that one of the forms from the other number on needs as one, and
+/// that has to be one at all: one that a transitive property gave has not where each chain goes on.
 fn list_second(
     ground: &Ground,
     from: usize,
@@ -154,12 +155,15 @@ fn list_second(
     requires row { HasEnding from ground.now.forms row.now }
     requires number { number < length facts.now.facts }
     ensures more { ListsMoreSeconds facts.now.facts index.old index.new }
-    ensures listed { OnOk result (IsListedFor from ground.now.forms facts.now.facts index.new number) }
+    ensures listed { OnOk result (IsListedFor from ground.now facts.now index.new number) }
 {
     let Fact::Edge(source, property, _) = facts.get(number) else {
         return Ok(());
     };
     if !is_needed(ground.problem(), ground.closure(), from, row, property) {
+        return Ok(());
+    }
+    if !is_second_premise(ground.problem(), ground.closure(), facts, number) {
         return Ok(());
     }
     if stands_in(index.second_premises_from(source), number) {
@@ -180,7 +184,7 @@ pub(crate) fn list_seconds(
 ) -> Result<(), Memory>
     requires { IsDerived ground.now facts.now }
     ensures more { ListsMoreSeconds facts.now.facts index.old index.new }
-    ensures listed { OnOk result ((n : ℕ) → IsListedFor from ground.now.forms facts.now.facts index.new n) }
+    ensures listed { OnOk result ((n : ℕ) → IsListedFor from ground.now facts.now index.new n) }
 {
     let problem = ground.problem();
     if leave_lists(problem.forms(), from) {

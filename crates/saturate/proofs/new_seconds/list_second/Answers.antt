@@ -11,5 +11,5 @@ returns-clause-more c = one_second c.args.facts.now.facts c.in-Edge.source c.in-
 
 pub returns-clause-listed : goal.returns-clause-listed
 returns-clause-listed c =
-    listed_as c.args.from c.args.ground.now.forms c.args.facts.now.facts c.add_second_premise.new.self c.args.number c.in-Edge.source c.in-Edge.property c.in-Edge.field-2 (c.get.ensures ∙ ap Some c.in-Edge.is)
+    listed_as c.args.from c.args.ground.now c.args.facts.now c.add_second_premise.new.self c.args.number c.in-Edge.source c.in-Edge.property c.in-Edge.field-2 (c.get.ensures ∙ ap Some c.in-Edge.is)
     ((c.in_ok-add_second_premise.ensures.ok c.in-Edge.source c.args.number).1 (inr (refl, refl)))

@@ -9,13 +9,13 @@ returns-in_err-list_second-clause-more c = more_seconds c.loop-number.invariant.
 pub loop-number-preserved : goal.loop-number-preserved
 loop-number-preserved c =
     let from = c.args.from in
-    let forms = c.args.ground.now.forms in
-    let facts = c.args.facts.now.facts in
+    let k = c.args.ground.now in
+    let d = c.args.facts.now in
     let more = c.in_ok-list_second.ensures.more in
     record {
       more = more_seconds c.loop-number.invariant.more more;
-      each = below_more (IsListedFor from forms facts c.list_second.new.index) c.loop-number.number (λ n low. still_listed_for from forms n more (c.loop-number.invariant.each n low)) c.in_ok-list_second.ensures.listed;
+      each = below_more (IsListedFor from k d c.list_second.new.index) c.loop-number.number (λ n low. still_listed_for from k n more (c.loop-number.invariant.each n low)) c.in_ok-list_second.ensures.listed;
     }
 
 pub returns-clause-listed : goal.returns-clause-listed
-returns-clause-listed c = all_listed_for c.args.from c.args.ground.now.forms c.args.facts.now.facts c.loop-number.index c.loop-number.number (omega (arith, c.loop-number-test.false, c.len-number-end.ensures.value)) c.loop-number.invariant.each
+returns-clause-listed c = all_listed_for c.args.from c.args.ground.now c.args.facts.now c.loop-number.index c.loop-number.number (omega (arith, c.loop-number-test.false, c.len-number-end.ensures.value)) c.loop-number.invariant.each
