@@ -106,10 +106,8 @@ impl FormList {
     pub fn joined(&self, more: FormList) -> Result<FormList, AllocError>
         ensures { IfOk result (λ all. all ≡ self.now ++ more) }
     {
-        if self.len() == 0 {
-            return Ok(more);
-        }
-        let forms = self.forms.joined(&more.forms)?;
+        let FormList { alloc: _, forms } = more;
+        let forms = self.forms.joined(forms)?;
         Ok(FormList {
             alloc: self.alloc,
             forms,

@@ -58,17 +58,20 @@ fn copy_of<T: Copy>(shared: &Shared<T>) -> Result<Shared<T>, AllocError>
     Ok(copy)
 }
 
-/// The items of the first list, and then those of the second.
-fn one_behind_another<T: Copy>(
+/// The items of the first list, then those of the second, and then those of the third, in one piece.
+fn in_one_piece<T: Copy>(
     alloc: Global,
     first: &[T],
     second: &[T],
+    third: &[T],
 ) -> Result<Vec<T>, AllocError>
-    ensures { IfOk result (λ all. all.items ≡ first.now ++ second.now) }
+    ensures { IfOk result (λ all. all.items ≡ (first.now ++ second.now) ++ third.now) }
 {
-    let mut all = Vec::with_capacity(alloc, first.len().saturating_add(second.len()))?;
+    let many = first.len().saturating_add(second.len());
+    let mut all = Vec::with_capacity(alloc, many.saturating_add(third.len()))?;
     all.extend_from_slice(first)?;
     all.extend_from_slice(second)?;
+    all.extend_from_slice(third)?;
     Ok(all)
 }
 
@@ -178,7 +181,7 @@ impl<T: Copy> SharedList<T> {
     pub fn copy(&self) -> Result<SharedList<T>, AllocError>
         ensures { IfOk result (λ copy. copy.items ≡ self.now.items) }
     {
-        let own = one_behind_another(self.alloc, &self.own, &[])?;
+        let own = in_one_piece(self.alloc, &self.own, &[], &[])?;
         let shared = copy_of(&self.shared)?;
         Ok(SharedList {
             alloc: self.alloc,
@@ -196,12 +199,12 @@ impl<T: Copy> SharedList<T> {
         let Some(count) = self.count.checked_add(more.len()) else {
             return Err(AllocError);
         };
-        let own = one_behind_another(self.alloc, &self.own, more)?;
         let shared = shared_of(&self.shared);
-        if are_many(own.len(), shared.len()) {
-            let all = one_behind_another(self.alloc, shared, &own)?;
+        if are_many(self.own.len().saturating_add(more.len()), shared.len()) {
+            let all = in_one_piece(self.alloc, shared, &self.own, more)?;
             return Ok(SharedList::of(all));
         }
+        let own = in_one_piece(self.alloc, &self.own, more, &[])?;
         let shared = copy_of(&self.shared)?;
         Ok(SharedList {
             alloc: self.alloc,
@@ -211,14 +214,18 @@ impl<T: Copy> SharedList<T> {
         })
     }
 
-    /// These items, and behind them those of the other list, as by `with_more`.
-    pub fn joined(&self, more: &SharedList<T>) -> Result<SharedList<T>, AllocError>
-        ensures { IfOk result (λ all. all.items ≡ self.now.items ++ more.now.items) }
+    /// These items, and behind them those of the other list: where there are none here, in the memory of the other list, else as by
+    /// `with_more`. Fails where memory is refused, or there would be 2^64 items.
+    pub fn joined(&self, more: SharedList<T>) -> Result<SharedList<T>, AllocError>
+        ensures { IfOk result (λ all. all.items ≡ self.now.items ++ more.items) }
     {
+        if self.count == 0 {
+            return Ok(more);
+        }
         if let Shared::Nothing = more.shared {
             return self.with_more(&more.own);
         }
-        let items = one_behind_another(self.alloc, shared_of(&more.shared), &more.own)?;
+        let items = in_one_piece(self.alloc, shared_of(&more.shared), &more.own, &[])?;
         let joined = self.with_more(&items);
         drop(items);
         joined

@@ -96,7 +96,7 @@ impl Entries {
     {
         let Entries { forms, origins } = more;
         let forms = self.forms.joined(forms)?;
-        let origins = self.origins.joined(&origins)?;
+        let origins = self.origins.joined(origins)?;
         Ok(Entries { forms, origins })
     }
 

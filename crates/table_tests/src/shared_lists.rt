@@ -47,10 +47,14 @@ fn is_joined(alloc: Global, list: &SharedList<u32>) -> Result<bool, AllocError> 
     let mut rest = SharedList::of(Vec::new(alloc));
     rest.push(NUMBERS[9])?;
     rest.push(NUMBERS[10])?;
-    let joined = list.joined(&rest)?;
-    let rest = rest.share();
-    let of_shared = list.joined(&rest)?;
-    Ok(has(&joined, &NUMBERS[..11]) && has(&of_shared, &NUMBERS[..11]))
+    let joined = list.joined(rest.copy()?)?;
+    let of_shared = list.joined(rest.share())?;
+    let of_none = SharedList::new(alloc).joined(list.copy()?)?;
+    Ok(
+        has(&joined, &NUMBERS[..11])
+            && has(&of_shared, &NUMBERS[..11])
+            && has(&of_none, &NUMBERS[..9]),
+    )
 }
 
 #[test]
