@@ -55,12 +55,12 @@ fn tags_of(fact: Fact) -> (u8, u8)
     }
 }
 
-/// The same bytes, with room for as many more.
-fn copied(bytes: &Vec<u8>) -> Result<Vec<u8>, Memory>
-    ensures { IfOk result (λ copy. copy.items ≡ bytes.now.items) }
+/// The same items, with room for as many. Fails where memory is refused.
+pub(crate) fn copied<T: Copy>(items: &Vec<T>) -> Result<Vec<T>, Memory>
+    ensures { IfOk result (λ copy. copy.items ≡ items.now.items) }
 {
-    let mut copy = Vec::with_capacity(*bytes.allocator(), bytes.capacity())?;
-    copy.extend_from_slice(bytes)?;
+    let mut copy = Vec::with_capacity(*items.allocator(), items.capacity())?;
+    copy.extend_from_slice(items)?;
     Ok(copy)
 }
 

@@ -5,14 +5,16 @@ ghost use Rattle.inference.specs.ClassNumbers.{IsAboveClass, IsAboveClasses, IsP
 ghost use Rattle.inference.specs.Flags.{HasEntryFacts};
 ghost use Rattle.inference.specs.Marks.{AreMarks, IsMark};
 ghost use Rattle.inference.specs.Tags.{NoneIn};
-ghost use Rattle.inference.specs.Visits.{IsBy};
+ghost use Rattle.inference.specs.Visits.{IsBy, IsClassFact};
 ghost use Rattle.facts.specs.declared.contexts.Fact.{Fact as Fact2};
 ghost use Rattle.normal_forms.specs.declared.forms.PropId2.TheVariants as properties;
+ghost use Rattle.axioms.specs.declared.ids.PropId.{PropId as PropId3};
+ghost use Rattle.inference.specs.declared.known_facts.FactKind.TheVariants as kinds;
 ghost use Rattle.inference.specs.declared.known_facts.Stop.TheVariants as stops;
 ghost use Rattle.std.specs.Prelude.{◌≡◌, ◌<◌, ◌≤◌, ◌^◌, ◌∷◌, Some, [], length, map, take, slice_get, Contains, Ok, IfOk, IfSome, IsNone, OnErr, false, true};
 
 use crate::birth_list::BirthList;
-use crate::class_tags::ClassTags;
+use crate::class_tags::{ClassTags, copied};
 use crate::context_flags::ContextFlags;
 use axioms::{Memory, PropId};
 use facts::{Birth, Context, Fact, FactTable, StoredFact};
@@ -48,7 +50,7 @@ pub struct KnownFacts {
     births: BirthList,
     /// The tags of each fact, by which the facts of a class are found without a look at each.
     tags: ClassTags,
-    /// A mark of each of the first facts, by which the property of an edge is told without a look at the edge.
+    /// A mark of each of the first facts, by which an edge and its property are told without a look at the fact.
     marks: Vec<u16>,
     /// Contexts that are known to have what is in each context.
     entered: ContextFlags,
@@ -103,16 +105,31 @@ fn is_past(class: Class2, end: usize) -> bool
 /// The mark of a fact of which it tells nothing.
 const UNMARKED: u16 = u16::MAX;
 
-/// The mark of a fact: the number of its property, where it is an edge and that is below the greatest mark.
+/// The mark of a fact that puts something into a class.
+const IN_CLASS: u16 = UNMARKED - 1;
+
+/// The mark of a fact: the number of its property, where it is an edge and that is below the two greatest marks.
 fn mark_of(fact: Fact) -> u16
     ensures { IsMark result fact }
 {
     match fact {
-        Fact::Edge(_, PropId2::Property(PropId(number)), _) if number < UNMARKED as u32 => {
+        Fact::In(..) => IN_CLASS,
+        Fact::Edge(_, PropId2::Property(PropId(number)), _) if number < IN_CLASS as u32 => {
             number as u16
         }
-        _ => UNMARKED,
+        Fact::Edge(..) => UNMARKED,
     }
+}
+
+/// What a mark tells of a fact.
+#[derive(Clone, Copy)]
+pub enum FactKind {
+    /// It puts something into a class.
+    InClass,
+    /// It is an edge by that property.
+    EdgeBy(PropId),
+    /// Nothing.
+    Unknown,
 }
 
 /// Marks those of the facts that are not marked, where memory is to be had.
@@ -154,12 +171,13 @@ impl KnownFacts {
         let births = self.births.copy()?;
         let tags = self.tags.copy()?;
         let facts = self.facts.copy()?;
+        let marks = copied(&self.marks)?;
         let alloc = self.allocator();
         Ok(KnownFacts {
             facts,
             births,
             tags,
-            marks: Vec::new(alloc),
+            marks,
             entered: ContextFlags::new(alloc),
             end: self.end,
         })
@@ -302,12 +320,25 @@ impl KnownFacts {
         }
     }
 
+    /// What a mark tells of the fact of that number, without a look at the fact.
+    #[inline(always)]
+    pub fn kind_of(&self, number: u32) -> FactKind
+        ensures class { result ≡ kinds.InClass → (f : Fact2) × (slice_get self.now.facts number ≡ Some f) × IsClassFact f }
+        ensures edge { (p : PropId3) → result ≡ kinds.EdgeBy p → (f : Fact2) × (slice_get self.now.facts number ≡ Some f) × IsBy (properties.Property p) f }
+    {
+        match self.marks.get(number as usize) {
+            Some(mark) if *mark < IN_CLASS => FactKind::EdgeBy(PropId(*mark as u32)),
+            Some(mark) if *mark == IN_CLASS => FactKind::InClass,
+            _ => FactKind::Unknown,
+        }
+    }
+
     /// The property of the edge of that number, where a mark tells it.
     pub(crate) fn marked(&self, number: u32) -> Option<PropId>
         ensures { IfSome result (λ p. (f : Fact2) × (slice_get self.now.facts number ≡ Some f) × IsBy (properties.Property p) f) }
     {
-        match self.marks.get(number as usize) {
-            Some(mark) if *mark < UNMARKED => Some(PropId(*mark as u32)),
+        match self.kind_of(number) {
+            FactKind::EdgeBy(property) => Some(property),
             _ => None,
         }
     }

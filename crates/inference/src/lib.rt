@@ -23,7 +23,7 @@ mod visits;
 
 pub use birth_list::BirthList;
 pub use joins::Joins;
-pub use known_facts::{KnownFacts, Stop};
+pub use known_facts::{FactKind, KnownFacts, Stop};
 pub use premises::Premise;
 pub use rules::Rules;
 pub use second_premises::is_second_premise;
