@@ -19,6 +19,7 @@ pub mod NewSeconds
 pub mod Staying
 pub mod Removing
 pub mod Summaries
+pub mod Telling
 pub mod FormKeys
 pub mod Settling
 pub mod Shifting

@@ -7,7 +7,7 @@ use Rattle.normal_forms.specs.declared.forms.PropId2.{PropId2}
 use Rattle.normal_forms.specs.Properties.{IsAtOrBelow}
 use Rattle.facts.specs.declared.contexts.Context.{Context}
 use Rattle.facts.specs.declared.contexts.Fact.{Fact}
-use Rattle.facts.specs.declared.contexts.Fact.TheVariants.{Edge}
+use Rattle.facts.specs.declared.contexts.Fact.TheVariants.{In, Edge}
 use Rattle.facts.specs.Closure.{Problem}
 use Rattle.indexes.specs.declared.index.Index.{Index}
 use Rattle.indexes.specs.Contexts.{at_context, AddsAt, IsSameAt}
@@ -15,12 +15,12 @@ use Rattle.indexes.specs.FactIndex.{IsFrom, IsIn, IsInto, IsSameButForSeconds, L
 use Rattle.indexes.specs.FormsUnderKeys.{IsUnder}
 use Rattle.indexes.specs.Keys.{by_end, property_key}
 use Rattle.inference.specs.Derivations.{Derived}
-use Rattle.inference.specs.Visits.{IsNotCarried}
+use Rattle.inference.specs.Visits.{IsBy, IsClassFact, IsNotCarried}
 use Rattle.inference.specs.Completeness.{IsRedundantAsSecond}
 use Rattle.indexes.specs.declared.by_context.ByContext.{ByContext}
 use Rattle.inference.proofs.Lists.{one_value}
 use Rattle.saturate.specs.IndexedFacts.{ListsFacts, ListsNeeded}
-use Rattle.saturate.specs.NewSeconds.{IsListedFor, ListsMoreSeconds, NoneEndsFrom}
+use Rattle.saturate.specs.NewSeconds.{IsListedAsSecond, ListsMoreSeconds, NoneEndsFrom}
 
 -- ---- which chains are new
 
@@ -70,7 +70,7 @@ no_second facts others same = record {
 }
 
 -- the edge that is read is that of its number
-pub listed_as : (from : ℕ) (k : Problem) (d : Derived) (index : Index) (n : ℕ) (x : Context) (p : PropId2) (y : Context) → slice_get d.facts n ≡ Some (Edge x p y) → Contains (at_context index.second_premises x) n → IsListedFor from k d index n
+pub listed_as : (from : ℕ) (k : Problem) (d : Derived) (index : Index) (n : ℕ) (x : Context) (p : PropId2) (y : Context) → slice_get d.facts n ≡ Some (Edge x p y) → Contains (at_context index.second_premises x) n → IsListedAsSecond from k d index n
 listed_as from k d index n x p y at there z q v is =
     let same : Edge x p y ≡ Edge z q v = one_value _ (Edge x p y) (Edge z q v) at is in
     inl (subst (λ (u : Context). Contains (at_context index.second_premises u) n) (source same) there)
@@ -78,7 +78,7 @@ listed_as from k d index n x p y at there z q v is =
     source : {a b : Context} {r s : PropId2} {c d : Context} → Edge a r c ≡ Edge b s d → a ≡ b
     source e = cc
 
-pub needed_by_none : (from : ℕ) (k : Problem) (d : Derived) (index : Index) (n : ℕ) (x : Context) (p : PropId2) (y : Context) → slice_get d.facts n ≡ Some (Edge x p y) → NoneEndsFrom from k.forms p → IsListedFor from k d index n
+needed_by_none : (from : ℕ) (k : Problem) (d : Derived) (index : Index) (n : ℕ) (x : Context) (p : PropId2) (y : Context) → slice_get d.facts n ≡ Some (Edge x p y) → NoneEndsFrom from k.forms p → IsListedAsSecond from k d index n
 needed_by_none from k d index n x p y at none z q v is =
     let same : Edge x p y ≡ Edge z q v = one_value _ (Edge x p y) (Edge z q v) at is in
     inr (inl (subst (NoneEndsFrom from k.forms) (property same) none))
@@ -86,18 +86,23 @@ needed_by_none from k d index n x p y at none z q v is =
     property : {a b : Context} {r s : PropId2} {c d : Context} → Edge a r c ≡ Edge b s d → r ≡ s
     property e = cc
 
--- an edge that need not be a second premise
-pub redundant_one : (from : ℕ) (k : Problem) (d : Derived) (index : Index) (n : ℕ) (x : Context) (p : PropId2) (y : Context) → slice_get d.facts n ≡ Some (Edge x p y) → IsRedundantAsSecond k d (Edge x p y) → IsListedFor from k d index n
-redundant_one from k d index n x p y at redundant z q v is = inr (inr (subst (IsRedundantAsSecond k d) (one_value _ (Edge x p y) (Edge z q v) at is) redundant))
-
-pub no_edge : (from : ℕ) (k : Problem) (d : Derived) (index : Index) (n : ℕ) (f : Fact) → slice_get d.facts n ≡ Some f → ((x : Context) (p : PropId2) (y : Context) → ¬ (f ≡ Edge x p y)) → IsListedFor from k d index n
+no_edge : (from : ℕ) (k : Problem) (d : Derived) (index : Index) (n : ℕ) (f : Fact) → slice_get d.facts n ≡ Some f → ((x : Context) (p : PropId2) (y : Context) → ¬ (f ≡ Edge x p y)) → IsListedAsSecond from k d index n
 no_edge from k d index n f at other x p y is = absurd (other x p y (one_value _ f (Edge x p y) at is))
 
-pub still_listed_for : {d : Derived} {old new : Index} (from : ℕ) (k : Problem) (n : ℕ) → ListsMoreSeconds d.facts old new → IsListedFor from k d old n → IsListedFor from k d new n
+-- what a mark tells of a fact
+pub told_class : (from : ℕ) (k : Problem) (d : Derived) (index : Index) (n : ℕ) (f : Fact) → slice_get d.facts n ≡ Some f → IsClassFact f → IsListedAsSecond from k d index n
+told_class from k d index n (In a x) at is = no_edge from k d index n (In a x) at (λ z q v e. absurd (cc))
+told_class from k d index n (Edge x p y) at is = absurd is
+
+pub told_edge : (from : ℕ) (k : Problem) (d : Derived) (index : Index) (n : ℕ) (p : PropId2) (f : Fact) → slice_get d.facts n ≡ Some f → IsBy p f → NoneEndsFrom from k.forms p → IsListedAsSecond from k d index n
+told_edge from k d index n p (In a x) at is none = absurd is
+told_edge from k d index n p (Edge x q y) at is none = needed_by_none from k d index n x q y at (subst (NoneEndsFrom from k.forms) (sym is) none)
+
+pub still_listed_for : {d : Derived} {old new : Index} (from : ℕ) (k : Problem) (n : ℕ) → ListsMoreSeconds d.facts old new → IsListedAsSecond from k d old n → IsListedAsSecond from k d new n
 still_listed_for from k n more listed x p y at = ⊎_elim (λ there. inl (more.kept x n there)) (λ none. inr none) (listed x p y at)
 
 -- past the facts there is nothing to list
-pub all_listed_for : (from : ℕ) (k : Problem) (d : Derived) (index : Index) (end : ℕ) → length d.facts ≤ end → ((n : ℕ) → n < end → IsListedFor from k d index n) → (n : ℕ) → IsListedFor from k d index n
+pub all_listed_for : (from : ℕ) (k : Problem) (d : Derived) (index : Index) (end : ℕ) → length d.facts ≤ end → ((n : ℕ) → n < end → IsListedAsSecond from k d index n) → (n : ℕ) → IsListedAsSecond from k d index n
 all_listed_for from k d index end long each n x p y at = each n (omega (arith, slice_get_within d.facts n (Edge x p y) at, long)) x p y at
 
 -- ---- what the index lists is right still

@@ -26,7 +26,7 @@ use Rattle.saturate.specs.Requests.{Asks, IsAskedAnew}
 use Rattle.saturate.specs.GoingOn.{HasEntered}
 use Rattle.saturate.specs.Growth.{with_more, EachFrom, IsGrownFrom, KeepsServed, LeavesEntries}
 use Rattle.saturate.specs.IndexedFacts.{ListsFacts}
-use Rattle.saturate.specs.NewSeconds.{IsListedFor}
+use Rattle.saturate.specs.NewSeconds.{IsListedAsSecond}
 use Rattle.saturate.proofs.Entering.{entered}
 use Rattle.saturate.proofs.Extending.{below_cases, new_or_there, redundant_more}
 use Rattle.saturate.proofs.Listing.{fewer}
@@ -182,7 +182,7 @@ added P from all each form there =
     each (from + at.0) form (omega arith) (sym (slice_get_drop from all at.0) ∙ at.1)
 
 -- what is listed for the forms from that number on is listed for those that are added
-listed_for_added : {k j : Problem} (from : ℕ) (is : IsGrownFrom from k j) (d : Derived) (index : Index) (n : ℕ) → IsListedFor from j d index n → IsListed k (drop from j.forms) j.apart is.roots is.lists d index n
+listed_for_added : {k j : Problem} (from : ℕ) (is : IsGrownFrom from k j) (d : Derived) (index : Index) (n : ℕ) → IsListedAsSecond from j d index n → IsListed k (drop from j.forms) j.apart is.roots is.lists d index n
 listed_for_added {k} {j} from is d index n listed x p y at = ⊎_elim
     (λ there. inl there)
     (λ rest. inr (⊎_elim
@@ -191,7 +191,7 @@ listed_for_added {k} {j} from is d index n listed x p y at = ⊎_elim
     rest))
     (listed x p y at)
 
-pub listed_then : {k j : Problem} {d : Derived} {w m : List ℕ} {index : Index} (from : ℕ) → IsGrownFrom from k j → ((n : ℕ) → IsListedFor from j d index n) → (now : List ℕ) → KeepsServed k j d.facts w now → ListsFacts k d w m index → ListsFacts j d now m index
+pub listed_then : {k j : Problem} {d : Derived} {w m : List ℕ} {index : Index} (from : ℕ) → IsGrownFrom from k j → ((n : ℕ) → IsListedAsSecond from j d index n) → (now : List ℕ) → KeepsServed k j d.facts w now → ListsFacts k d w m index → ListsFacts j d now m index
 listed_then {k} {j} {d} {w} {m} {index} from is each now keeps s =
     subst (λ (i : Problem). ListsFacts i d now m index) (sym is.problem)
     (listed_by_more k (drop from j.forms) j.apart is.roots is.lists now (λ n. listed_for_added from is d index n (each n)) (subst (λ (i : Problem). KeepsServed k i d.facts w now) is.problem keeps) s)

@@ -33,5 +33,5 @@ pub record ListsMoreSeconds (facts : List Fact) (old new : Index) : Type 0 where
 
 -- where the fact of that number is an edge, it is listed as a second premise, or none of the forms from the other number on needs it as one, or it
 -- need not be one for any form
-abbrev pub IsListedFor : ℕ → Problem → Derived → Index → ℕ → Type 0
-IsListedFor from k d index n = (x : Context) (p : PropId2) (y : Context) → slice_get d.facts n ≡ Some (Edge x p y) → Contains (at_context index.second_premises x) n ⊎ (NoneEndsFrom from k.forms p ⊎ IsRedundantAsSecond k d (Edge x p y))
+abbrev pub IsListedAsSecond : ℕ → Problem → Derived → Index → ℕ → Type 0
+IsListedAsSecond from k d index n = (x : Context) (p : PropId2) (y : Context) → slice_get d.facts n ≡ Some (Edge x p y) → Contains (at_context index.second_premises x) n ⊎ (NoneEndsFrom from k.forms p ⊎ IsRedundantAsSecond k d (Edge x p y))

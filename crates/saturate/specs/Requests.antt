@@ -1,5 +1,5 @@
 -- Which facts forms and lists of disjoint classes that are added ask for: what they give with others has to be drawn again.
-use Rattle.std.specs.Prelude.{◌≡◌, ◌⊎◌, ◌↔◌, ◌<◌, ℕ, Bool, true, List, [], length, slice_get, Some}
+use Rattle.std.specs.Prelude.{◌≡◌, ◌⊎◌, ◌↔◌, ◌<◌, ℕ, Bool, true, false, List, [], length, slice_get, Some}
 use Rattle.std.specs.List.{Contains}
 use Rattle.axioms.specs.declared.ids.ExprId.{ExprId}
 use Rattle.axioms.specs.declared.ids.IndId.{IndId}
@@ -14,6 +14,7 @@ use Rattle.normal_forms.specs.declared.forms.PropId2.{PropId2}
 use Rattle.normal_forms.specs.declared.forms.PropId2.TheVariants.{Property}
 use Rattle.normal_forms.specs.Properties.{IsAtOrBelow}
 use Rattle.property_closure.specs.PropertyClosures.{Known, Has}
+use Rattle.property_closure.specs.Relations.{as_property}
 use Rattle.facts.specs.declared.contexts.Context.{Context}
 use Rattle.facts.specs.declared.contexts.Context.TheVariants.{Individual}
 use Rattle.facts.specs.declared.contexts.Fact.{Fact}
@@ -21,7 +22,7 @@ use Rattle.facts.specs.declared.contexts.Fact.TheVariants.{In, Edge}
 use Rattle.facts.specs.Closure.{Problem, thing}
 use Rattle.indexes.specs.Apart.{IsInList}
 use Rattle.inference.specs.PropertyClosures.{IsClosureOf}
-use Rattle.inference.specs.Visits.{HasProperty}
+use Rattle.inference.specs.Visits.{HasProperty, IsBy, IsClassFact}
 
 -- one of the two individuals
 abbrev pub IsOneOf : IndId → IndId → Context → Type 0
@@ -95,10 +96,11 @@ IsOfNamed form (Edge x p y) = ⊥
 abbrev pub AsksByClass : Form → Type 0
 AsksByClass form = (forms : List Form) (f : Fact) → Asks forms form f → IsOfNamed form f
 
--- the form puts a property that the closure does not have below another
-abbrev pub PutsFreshBelow : Known → Form → Type 0
-PutsFreshBelow closure (N5 r s) = ¬ Has closure (Property r)
-PutsFreshBelow closure _ = ⊥
+-- the form puts a property that the closure does not have below another, or is a chain that begins with such a property
+abbrev pub BeginsFresh : Known → Form → Type 0
+BeginsFresh closure (N5 r s) = ¬ Has closure (Property r)
+BeginsFresh closure (N6 r s t) = ¬ Has closure r
+BeginsFresh closure _ = ⊥
 
 -- none of the forms asks for an edge
 abbrev pub LeaveEdges : List Form → Type 0
@@ -182,9 +184,24 @@ HasUnder closure P added = (all : List Form) → IsClosureOf all closure → Has
 abbrev pub LacksUnder : Known → (List Form → Form → Type 0) → List Form → Type 0
 LacksUnder closure P added = (all : List Form) → IsClosureOf all closure → HasForm (P all) added → ⊥
 
+-- the form makes no individuals one, and denies no pair
+abbrev pub LeavesIndividuals : Form → Type 0
+LeavesIndividuals (N10 a b) = ⊥
+LeavesIndividuals (N12 a r b) = ⊥
+LeavesIndividuals _ = Unit {0}
+
 -- one of the added forms or lists asks for the fact, or none does, by all forms, if the closure is that of all
 abbrev pub IsAskedUnder : Known → Problem → Fact → Type 0
 IsAskedUnder closure added f = (all : List Form) → IsClosureOf all closure → IsAsked all added f
 
 abbrev pub IsUnaskedUnder : Known → Problem → Fact → Type 0
 IsUnaskedUnder closure added f = (all : List Form) → IsClosureOf all closure → IsAsked all added f → ⊥
+
+-- of no property that the row lacks an added form names one at or above it
+abbrev pub HasNamed : Known → List Form → List Bool → Type 0
+HasNamed closure added row = (k : ℕ) → k < length row → has row k ≡ false → LacksUnder closure (λ all form. NamesAbove all form (as_property k)) added
+
+-- nothing that is in a class is asked for, where that is told, and no edge by a property that the row lacks
+pub record ToldOf (closure : Known) (added : Problem) (no_class : Bool) (row : List Bool) : Type 0 where
+  pub classes : no_class ≡ true → (f : Fact) → IsClassFact f → IsUnaskedUnder closure added f
+  pub edges : (p : PropId) (f : Fact) → p.0 < length row → has row p.0 ≡ false → IsBy (Property p) f → IsUnaskedUnder closure added f

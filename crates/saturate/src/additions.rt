@@ -100,7 +100,11 @@ fn begins_with(added: &IndexedProblem, property: PropId2) -> bool
 }
 
 /// Whether one of the added forms asks for the edges of a property.
-fn asks_for_edges(added: &IndexedProblem, closure: &PropertyClosure, property: PropId2) -> bool
+pub(crate) fn asks_for_edges(
+    added: &IndexedProblem,
+    closure: &PropertyClosure,
+    property: PropId2,
+) -> bool
     requires { Has closure.now property }
     ensures yes { result ≡ true → HasUnder closure.now (λ all form. NamesAbove all form property) added.now.forms }
     ensures no { result ≡ false → LacksUnder closure.now (λ all form. NamesAbove all form property) added.now.forms }

@@ -21,6 +21,7 @@ use crate::new_forms::new_forms;
 use crate::new_lists::new_lists;
 use crate::new_seconds::list_seconds;
 use crate::queue::Queue;
+use crate::told_facts::ToldFacts;
 use axioms::Memory;
 use facts::Fact;
 use indexes::{Index, IndexedProblem};
@@ -47,9 +48,12 @@ fn looked_at_each(
     let end = expected_contexts(ground.problem()).min(u32::MAX as usize) as u32;
     let classes = named_classes(alloc, added, end)?;
     let edges = may_ask_for_some_edges(added);
+    let told = ToldFacts::of(alloc, added, closure)?;
     let mut flags = Flags::new(alloc, facts.len())?;
     for place in 0..facts.len() as u32 {
-        if asks_for(added, &classes, edges, closure, facts.get(place)) {
+        if !told.passes(facts, place)
+            && asks_for(added, &classes, edges, closure, facts.get(place))
+        {
             flags.add(place)?;
         }
     }

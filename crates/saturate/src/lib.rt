@@ -21,6 +21,7 @@ mod queue;
 mod settled;
 mod state;
 mod summary;
+mod told_facts;
 
 pub use facts::{Birth, Context, Fact, FactId, Older, StoredFact};
 pub use finished::Finished;

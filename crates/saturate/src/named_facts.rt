@@ -1,6 +1,6 @@
 //! Facts of the classes that forms name, flagged without a look at each fact.
 ghost use Rattle.saturate.specs.Flags.{AreFlaggedToo, IsFlagged};
-ghost use Rattle.saturate.specs.Requests.{AskByClass, AsksByClass, IsOfClass, IsOfNamed, IsOfNamedClass, IsSuchAt, PutsFreshBelow, problem_of};
+ghost use Rattle.saturate.specs.Requests.{AskByClass, AsksByClass, IsOfClass, IsOfNamed, IsOfNamedClass, IsSuchAt, BeginsFresh, problem_of};
 ghost use Rattle.std.specs.Prelude.{◌≡◌, ◌⊎◌, ◌↔◌, ◌<◌, ◌≤◌, ℕ, IfOk, IsTrue, OnOk, length, true};
 
 use crate::flags::Flags;
@@ -9,25 +9,26 @@ use crate::summary::has;
 use axioms::Memory;
 use facts::Fact;
 use inference::KnownFacts;
-use normal_forms::{ApartLists, Class2, Form, FormList};
+use normal_forms::{ApartLists, Class2, Form, FormList, PropId2};
 use property_closure::PropertyClosure;
 use std::alloc::Global;
 
 /// Whether the form asks for no facts but those of a class that it names, or puts a property that the closure does not have below
-/// another.
+/// another, or is a chain that begins with such a property.
 fn asks_by_class(closure: &PropertyClosure, form: Form) -> bool
-    ensures { result ≡ true → AsksByClass form ⊎ PutsFreshBelow closure.now form }
+    ensures { result ≡ true → AsksByClass form ⊎ BeginsFresh closure.now form }
 {
     match form {
-        Form::N5(lower, _) => !has(closure, lower),
-        Form::N6(..) | Form::N10(..) | Form::N12(..) => false,
+        Form::N5(lower, _) => !has(closure, PropId2::Property(lower)),
+        Form::N6(first, ..) => !has(closure, first),
+        Form::N10(..) | Form::N12(..) => false,
         _ => true,
     }
 }
 
 /// Whether there is no added list of disjoint classes, and each added form asks for no facts but those of a class that it names, or puts
-/// a property that the closure of the earlier forms does not have below another: no edge is by it, so what the forms name is all that is
-/// asked for.
+/// a property that the closure of the earlier forms does not have below another, or begins a chain with it: no edge is by it, so what the
+/// forms name is all that is asked for.
 pub(crate) fn ask_by_class(closure: &PropertyClosure, forms: &FormList, apart: &ApartLists) -> bool
     ensures { result ≡ true → AskByClass closure.now (problem_of forms.now apart.now) }
 {

@@ -1,6 +1,8 @@
 //! The edges that chains that are added need as second premises.
 ghost use Rattle.saturate.specs.Growth.{EachFrom, LeavesLists};
-ghost use Rattle.saturate.specs.NewSeconds.{HasEnding, IsListedFor, ListsMoreSeconds, NoneEndsFrom};
+ghost use Rattle.saturate.specs.NewSeconds.{HasEnding, IsListedAsSecond, ListsMoreSeconds, NoneEndsFrom};
+ghost use Rattle.facts.specs.Closure.{Problem};
+ghost use Rattle.indexes.specs.declared.index.Index.{Index as Index2};
 ghost use Rattle.inference.specs.Derivations.{IsDerived};
 ghost use Rattle.inference.specs.PropertyClosures.{IsClosureOf};
 ghost use Rattle.number_sets.specs.Members.{has};
@@ -12,7 +14,7 @@ use crate::ground::Ground;
 use axioms::{Memory, PropId};
 use facts::Fact;
 use indexes::{Index, IndexedProblem};
-use inference::{KnownFacts, is_second_premise};
+use inference::{FactKind, KnownFacts, is_second_premise};
 use normal_forms::{Form, FormList, PropId2};
 use number_sets::Row;
 use property_closure::PropertyClosure;
@@ -131,6 +133,13 @@ fn is_needed(
     }
 }
 
+/// Whether the row tells of the property, and lacks it.
+pub(crate) fn lacks(row: &Row, property: PropId) -> bool
+    ensures { result ≡ true → (property.0 < length row.now) × (has row.now property.0 ≡ false) }
+{
+    property.index() < row.len() && !row.contains(property.index())
+}
+
 /// How long a list may be for it to be looked through for a number. It decides nothing.
 const SHORT: usize = 64;
 
@@ -139,6 +148,18 @@ fn stands_in(list: &[u32], number: u32) -> bool
     ensures { result ≡ true → Contains list.now number }
 {
     list.len() <= SHORT && list.contains(&number)
+}
+
+/// Whether a mark tells of the fact of that number that none of the forms need it as a second premise: it is no edge, or one by a property
+/// that the row lacks.
+fn is_passed(row: &Row, facts: &KnownFacts, number: u32) -> bool
+    ensures { result ≡ true → (from : ℕ) (k : Problem) (index : Index2) → HasEnding from k.forms row.now → IsListedAsSecond from k facts.now index number }
+{
+    match facts.kind_of(number) {
+        FactKind::InClass => true,
+        FactKind::EdgeBy(property) => lacks(row, property),
+        FactKind::Unknown => false,
+    }
 }
 
 /// Lists the fact of that number as a second premise, where it is an edge that one of the forms from the other number on needs as one, and
@@ -155,8 +176,11 @@ fn list_second(
     requires row { HasEnding from ground.now.forms row.now }
     requires number { number < length facts.now.facts }
     ensures more { ListsMoreSeconds facts.now.facts index.old index.new }
-    ensures listed { OnOk result (IsListedFor from ground.now facts.now index.new number) }
+    ensures listed { OnOk result (IsListedAsSecond from ground.now facts.now index.new number) }
 {
+    if is_passed(row, facts, number) {
+        return Ok(());
+    }
     let Fact::Edge(source, property, _) = facts.get(number) else {
         return Ok(());
     };
@@ -184,7 +208,7 @@ pub(crate) fn list_seconds(
 ) -> Result<(), Memory>
     requires { IsDerived ground.now facts.now }
     ensures more { ListsMoreSeconds facts.now.facts index.old index.new }
-    ensures listed { OnOk result ((n : ℕ) → IsListedFor from ground.now facts.now index.new n) }
+    ensures listed { OnOk result ((n : ℕ) → IsListedAsSecond from ground.now facts.now index.new n) }
 {
     let problem = ground.problem();
     if leave_lists(problem.forms(), from) {

@@ -35,10 +35,10 @@ fn closed(alloc: Global, forms: &FormList) -> Result<PropertyClosure, Memory>
 }
 
 /// Whether the closure has the property.
-pub(crate) fn has(closure: &PropertyClosure, property: PropId) -> bool
-    ensures { IsTrue result ↔ Has closure.now (properties.Property property) }
+pub(crate) fn has(closure: &PropertyClosure, property: PropId2) -> bool
+    ensures { IsTrue result ↔ Has closure.now property }
 {
-    !closure.supers(PropId2::Property(property)).is_empty()
+    !closure.supers(property).is_empty()
 }
 
 /// Whether the form leaves that closure as it is.
@@ -46,7 +46,9 @@ fn leaves_closure(closure: &PropertyClosure, form: Form) -> bool
     ensures { IsTrue result ↔ LeavesClosure closure.now form }
 {
     match form {
-        Form::N3(_, property, _) | Form::N9(_, property, _) => has(closure, property),
+        Form::N3(_, property, _) | Form::N9(_, property, _) => {
+            has(closure, PropId2::Property(property))
+        }
         Form::N5(..) | Form::N6(..) | Form::N7(..) => false,
         _ => true,
     }
@@ -87,7 +89,7 @@ fn leave_groups(forms: &FormList, from: usize) -> bool
 fn is_fresh(closure: &PropertyClosure, joins: &Joins, property: PropId) -> bool
     ensures { IsTrue result ↔ (¬ HasMask joins.now property.0 × ¬ Has closure.now (properties.Property property)) }
 {
-    !joins.has_mask(property) && !has(closure, property)
+    !joins.has_mask(property) && !has(closure, PropId2::Property(property))
 }
 
 /// Whether the form leaves these joins as they are.

@@ -1,5 +1,5 @@
 use Rattle.std.proofs.Common.{arith, below_more}
-use Rattle.saturate.specs.NewSeconds.{IsListedFor}
+use Rattle.saturate.specs.NewSeconds.{IsListedAsSecond}
 use Rattle.saturate.proofs.NewSeconds.{all_listed_for, more_seconds, still_listed_for}
 use Rattle.saturate.proofs.new_seconds.list_seconds.Goals as goal
 
@@ -14,7 +14,7 @@ loop-number-preserved c =
     let more = c.in_ok-list_second.ensures.more in
     record {
       more = more_seconds c.loop-number.invariant.more more;
-      each = below_more (IsListedFor from k d c.list_second.new.index) c.loop-number.number (λ n low. still_listed_for from k n more (c.loop-number.invariant.each n low)) c.in_ok-list_second.ensures.listed;
+      each = below_more (IsListedAsSecond from k d c.list_second.new.index) c.loop-number.number (λ n low. still_listed_for from k n more (c.loop-number.invariant.each n low)) c.in_ok-list_second.ensures.listed;
     }
 
 pub returns-clause-listed : goal.returns-clause-listed

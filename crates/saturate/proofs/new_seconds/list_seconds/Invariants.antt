@@ -1,9 +1,9 @@
 use Rattle.std.proofs.Common.{◌<◌, ℕ}
-use Rattle.saturate.specs.NewSeconds.{IsListedFor, ListsMoreSeconds}
+use Rattle.saturate.specs.NewSeconds.{IsListedAsSecond, ListsMoreSeconds}
 use Rattle.saturate.proofs.new_seconds.list_seconds.Given as goal
 
 abbrev pub invariant-loop-number : goal.invariant-loop-number
 invariant-loop-number l = record {
   more : ListsMoreSeconds l.facts.facts l.fn.index l.index;
-  each : (n : ℕ) → n < l.number → IsListedFor l.from l.ground l.facts l.index n;
+  each : (n : ℕ) → n < l.number → IsListedAsSecond l.from l.ground l.facts l.index n;
 }
