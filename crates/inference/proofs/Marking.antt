@@ -115,7 +115,7 @@ pub ends_by : (forms : List Form) (mask : ℕ) (p : PropId2) (f : Fact) → HasE
 ends_by forms mask p (In a x) has by = absurd by
 ends_by forms mask p (Edge x r y) has by = subst (HasEnds forms mask) (sym by) has
 
-from_not : (b : Bool) → not b ≡ false → b ≡ true
+pub from_not : (b : Bool) → not b ≡ false → b ≡ true
 from_not true e = refl
 from_not false e = absurd (true≢false e)
 

@@ -95,33 +95,48 @@ AreEntered k many d = (x : Context) → Contains (take many k.roots) x → IsEnt
 abbrev pub Drawn : Problem → List Fact → List Fact → Type 0
 Drawn k older facts = (condition : ℕ) (form : Option ℕ) (f : Fact) → Gives k condition form older f → Contains facts f
 
--- the form of a transitive property gave the fact, an edge of that property
-pub record IsGivenBy (k : Problem) (d : Derived) (property : PropId2) (f : Fact) : Type 0 where
+-- the form, which is one of the problem's, gave the fact
+pub record IsGivenBy (k : Problem) (d : Derived) (chain : Form) (f : Fact) : Type 0 where
   pub form : ℕ
-  pub transitive : slice_get k.forms form ≡ Some (N6 property property property)
+  pub is : slice_get k.forms form ≡ Some chain
   pub place : ℕ
   pub there : slice_get d.facts place ≡ Some f
   pub birth : Reason
   pub born : slice_get d.births place ≡ Some birth
   pub by : birth.form ≡ Some form
 
--- a chain goes on: what it gives can stand first in it again
-abbrev pub GoesOn : List Form → Form → Type 0
-GoesOn forms (N6 r s t) = IsAtOrBelow forms t r
-GoesOn forms _ = ⊥
+-- a chain joins an edge by p and one by q behind it to one by t
+pub record IsJoined (forms : List Form) (p q t : PropId2) : Type 0 where
+  pub first : PropId2
+  pub second : PropId2
+  pub chain : Contains forms (N6 first second t)
+  pub begins : IsAtOrBelow forms p first
+  pub ends : IsAtOrBelow forms q second
+
+-- chains join edges by p, a and b, one behind the other, to one by t: the first two to one by u, and that and the third
+pub record AreJoined (forms : List Form) (p a b t : PropId2) : Type 0 where
+  pub middle : PropId2
+  pub front : IsJoined forms p a middle
+  pub rest : IsJoined forms middle b t
+
+-- what the chain gives from an edge and, behind it, what another chain gave from edges by a and b comes from those three edges in the other order too
+abbrev pub IsSparedBy : List Form → PropId2 → PropId2 → Form → Type 0
+IsSparedBy forms a b (N6 r s t) = ∥ AreJoined forms r a b t ∥₁
+IsSparedBy forms a b _ = ⊥
 
 -- the chain ends with a property at or above that one
 abbrev pub EndsAbove : List Form → PropId2 → Form → Type 0
 EndsAbove forms p (N6 r s t) = IsAtOrBelow forms p s
 EndsAbove forms p _ = ⊥
 
--- the edge is redundant as the second premise of a chain that goes on, where the form of a transitive property at or below that with which the chain
--- ends gave it: from the first and the older two that gave the edge come the same conclusions, one after the other
+-- the edge is redundant as the second premise of the chain, where another chain gave it from two edges: from the first premise and the older of the two
+-- comes an edge that gives the same conclusion with the other
 pub record IsRedundantFor (k : Problem) (d : Derived) (form : Form) (f : Fact) : Type 0 where
-  pub goes_on : GoesOn k.forms form
-  pub property : PropId2
-  pub below : EndsAbove k.forms property form
-  pub given : IsGivenBy k d property f
+  pub first : PropId2
+  pub second : PropId2
+  pub whole : PropId2
+  pub given : IsGivenBy k d (N6 first second whole) f
+  pub spared : IsSparedBy k.forms first second form
 
 -- the fact is a loop at a context that has an entry: it is drawn when that is served
 pub record IsOwed (k : Problem) (d : Derived) (f : Fact) : Type 0 where

@@ -7,6 +7,7 @@ pub mod Entry
 pub mod Draws
 pub mod Sameness
 pub mod Marks
+pub mod Kinds
 pub mod Plans
 pub mod Joins
 pub mod Partings

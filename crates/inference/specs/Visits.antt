@@ -14,7 +14,9 @@ use Rattle.facts.specs.Closure.{Problem, Concludes, Gives}
 use Rattle.indexes.specs.Keys.{by_chain, by_denied, by_end, by_filler, by_first, by_restricted, by_second, by_target, class_key, individual_key, property_key}
 use Rattle.indexes.specs.FormsUnderKeys.{IsUnder}
 use Rattle.property_closure.specs.PropertyClosures.{Known, Has}
-use Rattle.inference.specs.Completeness.{IsDrawnFrom, GoesOn}
+use Rattle.inference.specs.Completeness.{AreJoined, IsDrawnFrom}
+use Rattle.number_sets.specs.Members.{has}
+use Rattle.normal_forms.specs.declared.forms.Form.TheVariants.{N6}
 
 -- the two facts, in this order, give nothing
 abbrev pub GiveNothing : Problem → Fact → Fact → Type 0
@@ -124,10 +126,10 @@ HaveAllVisited k older numbers = (n : ℕ) (form : Form) (f : Fact) → slice_ge
 abbrev pub AreOthersDrawn : Problem → List Fact → List Fact → Type 0
 AreOthersDrawn k older facts = (n : ℕ) (form : Form) (f : Fact) → slice_get k.forms n ≡ Some form → by_chain form ≡ None → by_filler form ≡ None → Concludes k form older f → Contains facts f
 
--- the form at the place goes on
-abbrev pub GoesOnAt : List Form → ℕ → Type 0
-GoesOnAt forms n = (form : Form) → slice_get forms n ≡ Some form → GoesOn forms form
+-- no chain that ends with s needs what another chain gave from edges by a and b as its second premise
+abbrev pub NoneNeeds : List Form → PropId2 → PropId2 → PropId2 → Type 0
+NoneNeeds forms a b s = (n : ℕ) (r t : PropId2) → slice_get forms n ≡ Some (N6 r s t) → ∥ AreJoined forms r a b t ∥₁
 
--- no chain that ends with s needs an edge as its second premise: there is none, or the edge is one that a transitive property gave and all of them go on
-abbrev pub NoneNeeds : List Form → Bool → PropId2 → Type 0
-NoneNeeds forms is_given s = (n : ℕ) → IsUnder by_end forms (property_key s) n → (is_given ≡ true) × GoesOnAt forms n
+-- no chain needs what those at the places that the row has give as its second premise
+abbrev pub AreSpared : List Form → List Bool → Type 0
+AreSpared forms row = (n : ℕ) (a b c s : PropId2) → has row n ≡ true → slice_get forms n ≡ Some (N6 a b c) → IsAtOrBelow forms c s → NoneNeeds forms a b s

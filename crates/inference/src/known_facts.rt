@@ -3,19 +3,19 @@ ghost use Rattle.facts.specs.Births.{reason};
 ghost use Rattle.inference.specs.Derivations.{with_fact};
 ghost use Rattle.inference.specs.ClassNumbers.{IsAboveClass, IsAboveClasses, IsPast};
 ghost use Rattle.inference.specs.Flags.{HasEntryFacts};
+ghost use Rattle.inference.specs.Kinds.{ArePassed};
 ghost use Rattle.inference.specs.Marks.{AreMarks, IsMark};
 ghost use Rattle.inference.specs.Tags.{NoneIn};
-ghost use Rattle.inference.specs.Visits.{IsBy, IsClassFact};
+ghost use Rattle.inference.specs.Visits.{IsBy};
 ghost use Rattle.facts.specs.declared.contexts.Fact.{Fact as Fact2};
 ghost use Rattle.normal_forms.specs.declared.forms.PropId2.TheVariants as properties;
-ghost use Rattle.axioms.specs.declared.ids.PropId.{PropId as PropId3};
-ghost use Rattle.inference.specs.declared.known_facts.FactKind.TheVariants as kinds;
 ghost use Rattle.inference.specs.declared.known_facts.Stop.TheVariants as stops;
 ghost use Rattle.std.specs.Prelude.{◌≡◌, ◌<◌, ◌≤◌, ◌^◌, ◌∷◌, Some, [], length, map, take, slice_get, Contains, Ok, IfOk, IfSome, IsNone, OnErr, false, true};
 
 use crate::birth_list::BirthList;
 use crate::class_tags::{ClassTags, copied};
 use crate::context_flags::ContextFlags;
+use crate::passed_kinds::PassedKinds;
 use axioms::{Memory, PropId};
 use facts::{Birth, Context, Fact, FactTable, StoredFact};
 use normal_forms::{Class2, PropId2};
@@ -106,7 +106,7 @@ fn is_past(class: Class2, end: usize) -> bool
 const UNMARKED: u16 = u16::MAX;
 
 /// The mark of a fact that puts something into a class.
-const IN_CLASS: u16 = UNMARKED - 1;
+pub(crate) const IN_CLASS: u16 = UNMARKED - 1;
 
 /// The mark of a fact: the number of its property, where it is an edge and that is below the two greatest marks.
 fn mark_of(fact: Fact) -> u16
@@ -119,17 +119,6 @@ fn mark_of(fact: Fact) -> u16
         }
         Fact::Edge(..) => UNMARKED,
     }
-}
-
-/// What a mark tells of a fact.
-#[derive(Clone, Copy)]
-pub enum FactKind {
-    /// It puts something into a class.
-    InClass,
-    /// It is an edge by that property.
-    EdgeBy(PropId),
-    /// Nothing.
-    Unknown,
 }
 
 /// Marks those of the facts that are not marked, where memory is to be had.
@@ -217,6 +206,21 @@ impl KnownFacts {
         }
         let number = self.tags.next(class, from)?;
         Some(number as u32)
+    }
+
+    /// Passes over the facts from that number on that marks tell to be of such kinds: the number of one that may be of another, if there
+    /// is any. It looks at the marks of the facts alone.
+    pub fn next_besides(&self, kinds: &PassedKinds, from: usize) -> Option<u32>
+        ensures low { IfSome result (λ number. from ≤ number) }
+        ensures high { IfSome result (λ number. number < length self.now.facts) }
+        ensures before { IfSome result (λ number. ArePassed kinds.now self.now.facts from number) }
+        ensures none { IsNone result → ArePassed kinds.now self.now.facts from (length self.now.facts) }
+    {
+        let place = kinds.next(&self.marks, from);
+        if place >= self.facts.len() {
+            return None;
+        }
+        Some(place as u32)
     }
 
     /// The fact of that number.
@@ -320,25 +324,13 @@ impl KnownFacts {
         }
     }
 
-    /// What a mark tells of the fact of that number, without a look at the fact.
-    #[inline(always)]
-    pub fn kind_of(&self, number: u32) -> FactKind
-        ensures class { result ≡ kinds.InClass → (f : Fact2) × (slice_get self.now.facts number ≡ Some f) × IsClassFact f }
-        ensures edge { (p : PropId3) → result ≡ kinds.EdgeBy p → (f : Fact2) × (slice_get self.now.facts number ≡ Some f) × IsBy (properties.Property p) f }
-    {
-        match self.marks.get(number as usize) {
-            Some(mark) if *mark < IN_CLASS => FactKind::EdgeBy(PropId(*mark as u32)),
-            Some(mark) if *mark == IN_CLASS => FactKind::InClass,
-            _ => FactKind::Unknown,
-        }
-    }
-
     /// The property of the edge of that number, where a mark tells it.
+    #[inline(always)]
     pub(crate) fn marked(&self, number: u32) -> Option<PropId>
         ensures { IfSome result (λ p. (f : Fact2) × (slice_get self.now.facts number ≡ Some f) × IsBy (properties.Property p) f) }
     {
-        match self.kind_of(number) {
-            FactKind::EdgeBy(property) => Some(property),
+        match self.marks.get(number as usize) {
+            Some(mark) if *mark < IN_CLASS => Some(PropId(*mark as u32)),
             _ => None,
         }
     }

@@ -8,7 +8,7 @@ use property_closure::PropertyClosure;
 
 /// Whether the two are one.
 #[inline(always)]
-fn is_same(p: PropId2, q: PropId2) -> bool
+pub(crate) fn is_same(p: PropId2, q: PropId2) -> bool
     ensures { IsTrue result ↔ (p ≡ q) }
 {
     p == q

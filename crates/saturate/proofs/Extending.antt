@@ -24,12 +24,12 @@ use Rattle.saturate.specs.Requests.{Asks, IsAskedAnew, IsNew, IsOneOf, NewFormAs
 use Rattle.inference.specs.Derivations.{Derived, IsDerived, Grows, Keeps}
 use Rattle.saturate.specs.Growth.{with_more, KeepsServed}
 use Rattle.saturate.specs.GoingOn.{IsBegun}
-use Rattle.inference.specs.Completeness.{AllDrawn, DrawnUpToRedundancy, IsCompleteUpToRedundancy, IsEntry, IsOwed, IsServed, AreRedundant, EndsAbove, GoesOn}
+use Rattle.inference.specs.Completeness.{AllDrawn, DrawnUpToRedundancy, IsCompleteUpToRedundancy, IsEntry, IsOwed, IsServed, AreRedundant, IsSparedBy}
 use Rattle.saturate.proofs.EqualForms.{is_listed, is_there}
 use Rattle.saturate.proofs.Joining.{apart_is_there, first_in}
 use Rattle.inference.proofs.Lists.{Contains-from_slice_get, slice_get-from_Contains}
 use Rattle.inference.proofs.Growth.{there_still}
-use Rattle.inference.proofs.Redundancy.{redundant_still}
+use Rattle.inference.proofs.Redundancy.{all_joined_still, redundant_still}
 use Rattle.inference.proofs.Owing.{class_is_not_owed, entry_before, owed_still}
 use Rattle.saturate.specs.State.{IsUnderWay}
 use Rattle.saturate.specs.IndexedFacts.{ListsFacts, ListsServed}
@@ -265,31 +265,18 @@ module _ (k : Problem) (forms : List Form) (lists : ApartLists) (roots : List Co
 
   -- ---- what was redundant is redundant still
 
-  goes_on_more : (form : Form) → GoesOn k.forms form → GoesOn (k.forms ++ forms) form
-  goes_on_more (N6 r s t) on = below_more k.forms forms t r on
-  goes_on_more (N1 _ _) on = on
-  goes_on_more (N2 _ _ _) on = on
-  goes_on_more (N3 _ _ _) on = on
-  goes_on_more (N4 _ _ _) on = on
-  goes_on_more (N5 _ _) on = on
-  goes_on_more (N7 _) on = on
-  goes_on_more (N8 _ _) on = on
-  goes_on_more (N9 _ _ _) on = on
-  goes_on_more (N10 _ _) on = on
-  goes_on_more (N12 _ _ _) on = on
-
-  ends_more : (p : PropId2) (form : Form) → EndsAbove k.forms p form → EndsAbove (k.forms ++ forms) p form
-  ends_more p (N6 r s t) low = below_more k.forms forms p s low
-  ends_more p (N1 _ _) low = low
-  ends_more p (N2 _ _ _) low = low
-  ends_more p (N3 _ _ _) low = low
-  ends_more p (N4 _ _ _) low = low
-  ends_more p (N5 _ _) low = low
-  ends_more p (N7 _) low = low
-  ends_more p (N8 _ _) low = low
-  ends_more p (N9 _ _ _) low = low
-  ends_more p (N10 _ _) low = low
-  ends_more p (N12 _ _ _) low = low
+  spared_more : (a b : PropId2) (form : Form) → IsSparedBy k.forms a b form → IsSparedBy (k.forms ++ forms) a b form
+  spared_more a b (N6 r s t) spared = all_joined_still k.forms forms r a b t spared
+  spared_more a b (N1 _ _) spared = spared
+  spared_more a b (N2 _ _ _) spared = spared
+  spared_more a b (N3 _ _ _) spared = spared
+  spared_more a b (N4 _ _ _) spared = spared
+  spared_more a b (N5 _ _) spared = spared
+  spared_more a b (N7 _) spared = spared
+  spared_more a b (N8 _ _) spared = spared
+  spared_more a b (N9 _ _ _) spared = spared
+  spared_more a b (N10 _ _) spared = spared
+  spared_more a b (N12 _ _ _) spared = spared
 
   -- what is redundant by a form is redundant by each that is equal to it
   pub redundant_more : (d : Derived) (g h f : Fact) (m n : ℕ) (form : Form) → slice_get k.forms m ≡ Some form → slice_get (k.forms ++ forms) n ≡ Some form
@@ -298,12 +285,13 @@ module _ (k : Problem) (forms : List Form) (lists : ApartLists) (roots : List Co
     w.0,
     at ∙ sym before ∙ w.1,
     record {
-      goes_on = goes_on_more w.0 w.2.goes_on;
-      property = w.2.property;
-      below = ends_more w.2.property w.0 w.2.below;
+      first = w.2.first;
+      second = w.2.second;
+      whole = w.2.whole;
+      spared = spared_more w.2.first w.2.second w.0 w.2.spared;
       given = record {
         form = w.2.given.form;
-        transitive = slice_get_more k.forms forms w.2.given.form (N6 w.2.property w.2.property w.2.property) w.2.given.transitive;
+        is = slice_get_more k.forms forms w.2.given.form (N6 w.2.first w.2.second w.2.whole) w.2.given.is;
         place = w.2.given.place;
         there = w.2.given.there;
         birth = w.2.given.birth;

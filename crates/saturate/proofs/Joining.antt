@@ -1,6 +1,10 @@
 -- What is redundant is there, where all facts are served: by way of the older two that gave the second edge.
 use Rattle.std.proofs.Common.{◌≡◌, ℕ, zero, suc, ◌<◌, ◌⊎◌, inl, inr, ⊎_elim, List, [], ◌∷◌, map, take, slice_get, Some, None, Option, Contains, refl, sym, subst, arith}
 use Rattle.std.proofs.lemmas.Option.{none-some, same_Some}
+use Rattle.std.proofs.Math.Logic.{∥∥₁_elim}
+use mathlib.Core.HLevel.{Σ_prop_path}
+use denote.Struct.Props as logic
+use Rattle.axioms.specs.WellFormedness.{AreDistinct}
 use Rattle.axioms.specs.declared.ids.ExprId.{ExprId}
 use Rattle.normal_forms.specs.Forms.{AtOrderedPlaces}
 use Rattle.normal_forms.specs.declared.forms.Class2.{Class2}
@@ -15,7 +19,7 @@ use Rattle.facts.specs.declared.contexts.Fact.{Fact}
 use Rattle.facts.specs.declared.contexts.Fact.TheVariants.{In, Edge}
 use Rattle.facts.specs.Closure.{Problem, FromTwo, Concludes, HandsOn, IsLoop, Gives, nothing, in_thing, in_itself, by_form, unsatisfiable, loop, handed_on, different, apart}
 use Rattle.inference.specs.Derivations.{Derived, IsDerived}
-use Rattle.inference.specs.Completeness.{AreRedundant, Drawn, DrawnUpToRedundancy, EndsAbove, GoesOn}
+use Rattle.inference.specs.Completeness.{AreJoined, AreRedundant, Drawn, DrawnUpToRedundancy, IsJoined, IsSparedBy}
 use Rattle.inference.proofs.Lists.{Contains-from_slice_get, one_value, slice_get_take, slice_get-from_Contains}
 
 chains_hand_nothing_on : (r s t : PropId2) {g f : Fact} → HandsOn (N6 r s t) g f → ⊥
@@ -69,77 +73,91 @@ apart_is_there s a b x o (inl there) = there
 apart_is_there s a b x None (inr redundant) = absurd redundant
 apart_is_there {k} {d} s a b x (Some n) (inr redundant) =
     let given = redundant.2.given in
-    let e : PropId2 = redundant.2.property in
+    let r : PropId2 = redundant.2.first in
+    let t : PropId2 = redundant.2.second in
+    let u : PropId2 = redundant.2.whole in
     let (older, _, gives) = s.born given.place (In b x) given.birth given.there given.born in
     ⊎_elim
-    (λ from. absurd (chain_gives_edges k e e e older b x from))
+    (λ from. absurd (chain_gives_edges k r t u older b x from))
     (λ of.
     let of_nothing : In b x ≡ In nothing of.0 = of.1 in
     let same : In b x ≡ In nothing x = cc in
     subst (Contains d.facts) same (Contains-from_slice_get d.facts given.place (In b x) given.there))
-    (by_chain_form e e e gives given.by given.transitive)
+    (by_chain_form r t u gives given.by given.is)
 
 -- what is below what is below
 below_both : (forms : List Form) (p q r : PropId2) → IsAtOrBelow forms p q → IsAtOrBelow forms q r → IsAtOrBelow forms p r
 below_both forms p q _ low same = low
 below_both forms p q _ low (step s t h there) = step s t (below_both forms p q (Property s) low h) there
 
+-- facts that differ are there in one way at most
+there_once : (facts : List Fact) → AreDistinct facts → (h : Fact) → IsProp (Contains facts h)
+there_once facts distinct h x y = Σ_prop_path (λ n. Prim.hlevel logic.props) x y (distinct x.0 y.0 h (slice_get-at facts x.0 h x.1 x.2) (slice_get-at facts y.0 h y.1 y.2))
+
 module _ {k : Problem} {d : Derived} (s : IsDerived k d) (complete : (f g : Fact) → Contains d.facts f → Contains d.facts g → DrawnUpToRedundancy k (f ∷ g ∷ []) d) where
   -- what a fact gives as the first of two is there, where the second stands at the place
   abbrev Joins : ℕ → Type 0
   Joins n = (f g : Fact) (c : ℕ) (o : Option ℕ) (h : Fact) → Contains d.facts f → slice_get d.facts n ≡ Some g → Gives k c o (f ∷ g ∷ []) h → Contains d.facts h
 
-  -- from y to w and from w to z lead the two that gave the second: x to w is there by the chain, and so is x to z
-  by_two : (n i : ℕ) (r s t e : PropId2) → slice_get k.forms i ≡ Some (N6 r s t) → IsAtOrBelow k.forms t r → IsAtOrBelow k.forms e s → ((m : ℕ) → m < n → Joins m)
-      → (x y w v z u : Context) (o p q : PropId2) (a b : ℕ)
-      → Contains d.facts (Edge x o y) → IsAtOrBelow k.forms o r
-      → slice_get (take n d.facts) a ≡ Some (Edge u p w) → IsAtOrBelow k.forms p e → y ≡ u
-      → slice_get (take n d.facts) b ≡ Some (Edge v q z) → IsAtOrBelow k.forms q e → w ≡ v
-      → Contains d.facts (Edge x t z)
-  by_two n i r s t e at goes_on low joins x y w v z u o p q a b there o_below first p_below y_is second q_below w_is =
-      let one = slice_get_take n d.facts a (Edge u p w) first in
-      let two = slice_get_take n d.facts b (Edge v q z) second in
-      let half : Contains d.facts (Edge x t w) = joins a one.0 (Edge x o y) (Edge u p w) 9 (Some i) (Edge x t w) there one.1 (by_form i (N6 r s t) at (o_below, below_both k.forms p e s p_below low, y_is, refl)) in
-      joins b two.0 (Edge x t w) (Edge v q z) 9 (Some i) (Edge x t z) half two.1 (by_form i (N6 r s t) at (goes_on, below_both k.forms q e s q_below low, w_is, refl))
+  -- what a chain gives from two edges is there
+  by_joined : (m : ℕ) → Joins m → (p q t : PropId2) → IsJoined k.forms p q t → (x y z v : Context) (o e : PropId2)
+      → Contains d.facts (Edge x o y) → IsAtOrBelow k.forms o p → slice_get d.facts m ≡ Some (Edge z e v) → IsAtOrBelow k.forms e q → y ≡ z → Contains d.facts (Edge x t v)
+  by_joined m joins p q t joined x y z v o e there o_below at e_below y_is =
+      let i = slice_get-from_Contains k.forms (N6 joined.first joined.second t) joined.chain in
+      joins (Edge x o y) (Edge z e v) 9 (Some i.0) (Edge x t v) there at
+      (by_form i.0 (N6 joined.first joined.second t) i.1 (below_both k.forms o p joined.first o_below joined.begins, below_both k.forms e q joined.second e_below joined.ends, y_is, refl))
 
-  by_older : (n i : ℕ) (r s t e : PropId2) → slice_get k.forms i ≡ Some (N6 r s t) → IsAtOrBelow k.forms t r → IsAtOrBelow k.forms e s → ((m : ℕ) → m < n → Joins m) → (f g h : Fact) → Contains d.facts f
-      → (places : List ℕ) (older : List Fact) → map (slice_get (take n d.facts)) places ≡ map Some older → Concludes k (N6 e e e) older g
+  -- from y to w and from w to z lead the two that gave the second: from x to w leads what the first two give, and from x to z what that and the third do
+  by_two : (n : ℕ) (r a b t : PropId2) → AreJoined k.forms r a b t → ((m : ℕ) → m < n → Joins m)
+      → (x y w v z u : Context) (o p q : PropId2) (i j : ℕ)
+      → Contains d.facts (Edge x o y) → IsAtOrBelow k.forms o r
+      → slice_get (take n d.facts) i ≡ Some (Edge u p w) → IsAtOrBelow k.forms p a → y ≡ u
+      → slice_get (take n d.facts) j ≡ Some (Edge v q z) → IsAtOrBelow k.forms q b → w ≡ v
+      → Contains d.facts (Edge x t z)
+  by_two n r a b t are joins x y w v z u o p q i j there o_below first p_below y_is second q_below w_is =
+      let one = slice_get_take n d.facts i (Edge u p w) first in
+      let two = slice_get_take n d.facts j (Edge v q z) second in
+      let half : Contains d.facts (Edge x are.middle w) = by_joined i (joins i one.0) r a are.middle are.front x y u w o p there o_below one.1 p_below y_is in
+      by_joined j (joins j two.0) are.middle b t are.rest x w v z are.middle q half same two.1 q_below w_is
+
+  by_older : (n : ℕ) (r s t a b c : PropId2) → ∥ AreJoined k.forms r a b t ∥₁ → ((m : ℕ) → m < n → Joins m) → (f g h : Fact) → Contains d.facts f
+      → (places : List ℕ) (older : List Fact) → map (slice_get (take n d.facts)) places ≡ map Some older → Concludes k (N6 a b c) older g
       → FromTwo k (N6 r s t) f g h → Contains d.facts h
-  by_older n i r s t e at on low joins f g h there places [] are from gives = absurd from
-  by_older n i r s t e at on low joins f g h there places (a ∷ []) are from gives = absurd from
-  by_older n i r s t e at on low joins f g h there places (a ∷ b ∷ c ∷ more) are from gives = absurd from
-  by_older n i r s t e at on low joins f g h there places (In _ _ ∷ b ∷ []) are from gives = absurd from
-  by_older n i r s t e at on low joins f g h there places (Edge _ _ _ ∷ In _ _ ∷ []) are from gives = absurd from
-  by_older n i r s t e at on low joins (In _ _) g h there places (Edge _ _ _ ∷ Edge _ _ _ ∷ []) are from gives = absurd gives
-  by_older n i r s t e at on low joins (Edge _ _ _) (In _ _) h there places (Edge _ _ _ ∷ Edge _ _ _ ∷ []) are from gives = absurd gives
-  by_older n i r s t e at on low joins (Edge _ _ _) (Edge _ _ _) h there [] (Edge _ _ _ ∷ Edge _ _ _ ∷ []) are from gives = absurd (cc)
-  by_older n i r s t e at on low joins (Edge _ _ _) (Edge _ _ _) h there (a ∷ []) (Edge _ _ _ ∷ Edge _ _ _ ∷ []) are from gives = absurd (cc)
-  by_older n i r s t e at on low joins (Edge x o y) (Edge u g v) h there (a ∷ b ∷ rest) (Edge y' p w ∷ Edge w' q z ∷ []) are from gives =
-      let first : slice_get (take n d.facts) a ≡ Some (Edge y' p w) = cc in
-      let second : slice_get (take n d.facts) b ≡ Some (Edge w' q z) = cc in
-      let g_is : Edge u g v ≡ Edge y' e z = from.3 in
+  by_older n r s t a b c joined joins f g h there places [] are from gives = absurd from
+  by_older n r s t a b c joined joins f g h there places (i ∷ []) are from gives = absurd from
+  by_older n r s t a b c joined joins f g h there places (i ∷ j ∷ l ∷ more) are from gives = absurd from
+  by_older n r s t a b c joined joins f g h there places (In _ _ ∷ j ∷ []) are from gives = absurd from
+  by_older n r s t a b c joined joins f g h there places (Edge _ _ _ ∷ In _ _ ∷ []) are from gives = absurd from
+  by_older n r s t a b c joined joins (In _ _) g h there places (Edge _ _ _ ∷ Edge _ _ _ ∷ []) are from gives = absurd gives
+  by_older n r s t a b c joined joins (Edge _ _ _) (In _ _) h there places (Edge _ _ _ ∷ Edge _ _ _ ∷ []) are from gives = absurd gives
+  by_older n r s t a b c joined joins (Edge _ _ _) (Edge _ _ _) h there [] (Edge _ _ _ ∷ Edge _ _ _ ∷ []) are from gives = absurd (cc)
+  by_older n r s t a b c joined joins (Edge _ _ _) (Edge _ _ _) h there (i ∷ []) (Edge _ _ _ ∷ Edge _ _ _ ∷ []) are from gives = absurd (cc)
+  by_older n r s t a b c joined joins (Edge x o y) (Edge u g v) h there (i ∷ j ∷ rest) (Edge y' p w ∷ Edge w' q z ∷ []) are from gives =
+      let first : slice_get (take n d.facts) i ≡ Some (Edge y' p w) = cc in
+      let second : slice_get (take n d.facts) j ≡ Some (Edge w' q z) = cc in
+      let g_is : Edge u g v ≡ Edge y' c z = from.3 in
       let y_is : y ≡ u = gives.2 in
       let starts : y ≡ y' = cc in
       let ends : v ≡ z = cc in
       let h_is : h ≡ Edge x t v = gives.3 in
       let given : Edge x t z ≡ h = cc in
-      subst (Contains d.facts) given (by_two n i r s t e at on low joins x y w w' z y' o p q a b there gives.0 first from.0 starts second from.1 from.2)
+      subst (Contains d.facts) given (∥∥₁_elim joined (there_once d.facts s.distinct (Edge x t z)) (λ j'. by_two n r a b t j' joins x y w w' z y' o p q i j there gives.0 first from.0 starts second from.1 from.2))
 
-  by_chain : (n i : ℕ) (form : Form) (e : PropId2) → slice_get k.forms i ≡ Some form → GoesOn k.forms form → EndsAbove k.forms e form → ((m : ℕ) → m < n → Joins m) → (f g h : Fact) → Contains d.facts f
-      → (places : List ℕ) (older : List Fact) → map (slice_get (take n d.facts)) places ≡ map Some older → Concludes k (N6 e e e) older g ⊎ IsOfNothing g
+  by_chain : (n : ℕ) (form : Form) (a b c : PropId2) → IsSparedBy k.forms a b form → ((m : ℕ) → m < n → Joins m) → (f g h : Fact) → Contains d.facts f
+      → (places : List ℕ) (older : List Fact) → map (slice_get (take n d.facts)) places ≡ map Some older → Concludes k (N6 a b c) older g ⊎ IsOfNothing g
       → FromTwo k form f g h → Contains d.facts h
-  by_chain n i (N6 r s t) e at on low joins f g h there places older are (inl from) gives = by_older n i r s t e at on low joins f g h there places older are from gives
-  by_chain n i (N6 r s t) e at on low joins f g h there places older are (inr of) gives = absurd (second_is_edge k r s t f g h of gives)
-  by_chain n i (N1 _ _) e at on low joins f g h there places older are from gives = absurd on
-  by_chain n i (N2 _ _ _) e at on low joins f g h there places older are from gives = absurd on
-  by_chain n i (N3 _ _ _) e at on low joins f g h there places older are from gives = absurd on
-  by_chain n i (N4 _ _ _) e at on low joins f g h there places older are from gives = absurd on
-  by_chain n i (N5 _ _) e at on low joins f g h there places older are from gives = absurd on
-  by_chain n i (N7 _) e at on low joins f g h there places older are from gives = absurd on
-  by_chain n i (N8 _ _) e at on low joins f g h there places older are from gives = absurd on
-  by_chain n i (N9 _ _ _) e at on low joins f g h there places older are from gives = absurd on
-  by_chain n i (N10 _ _) e at on low joins f g h there places older are from gives = absurd on
-  by_chain n i (N12 _ _ _) e at on low joins f g h there places older are from gives = absurd on
+  by_chain n (N6 r s t) a b c spared joins f g h there places older are (inl from) gives = by_older n r s t a b c spared joins f g h there places older are from gives
+  by_chain n (N6 r s t) a b c spared joins f g h there places older are (inr of) gives = absurd (second_is_edge k r s t f g h of gives)
+  by_chain n (N1 _ _) a b c spared joins f g h there places older are from gives = absurd spared
+  by_chain n (N2 _ _ _) a b c spared joins f g h there places older are from gives = absurd spared
+  by_chain n (N3 _ _ _) a b c spared joins f g h there places older are from gives = absurd spared
+  by_chain n (N4 _ _ _) a b c spared joins f g h there places older are from gives = absurd spared
+  by_chain n (N5 _ _) a b c spared joins f g h there places older are from gives = absurd spared
+  by_chain n (N7 _) a b c spared joins f g h there places older are from gives = absurd spared
+  by_chain n (N8 _ _) a b c spared joins f g h there places older are from gives = absurd spared
+  by_chain n (N9 _ _ _) a b c spared joins f g h there places older are from gives = absurd spared
+  by_chain n (N10 _ _) a b c spared joins f g h there places older are from gives = absurd spared
+  by_chain n (N12 _ _ _) a b c spared joins f g h there places older are from gives = absurd spared
 
   redundant_is_there : (n : ℕ) → ((m : ℕ) → m < n → Joins m) → (f g : Fact) (c : ℕ) (o : Option ℕ) (h : Fact) → Contains d.facts f → slice_get d.facts n ≡ Some g → Gives k c o (f ∷ g ∷ []) h → AreRedundant k d (f ∷ g ∷ []) o h → Contains d.facts h
   redundant_is_there n joins f g c None h there at gives w = absurd w
@@ -149,9 +167,8 @@ module _ {k : Problem} {d : Derived} (s : IsDerived k d) (complete : (f g : Fact
       let given = w.2.given in
       let place_is : given.place ≡ n = s.distinct given.place n g given.there at in
       let b = s.born given.place g given.birth given.there given.born in
-      let e : PropId2 = w.2.property in
-      by_chain given.place i w.0 e w.1 w.2.goes_on w.2.below (λ m l. joins m (omega (arith, place_is, l))) f g h there given.birth.older b.0 b.1
-      (by_chain_form e e e b.2 given.by given.transitive) (subst (λ (x : Form). FromTwo k x f g h) (one_value _ form w.0 is w.1) gives)
+      by_chain given.place w.0 w.2.first w.2.second w.2.whole w.2.spared (λ m l. joins m (omega (arith, place_is, l))) f g h there given.birth.older b.0 b.1
+      (by_chain_form w.2.first w.2.second w.2.whole b.2 given.by given.is) (subst (λ (x : Form). FromTwo k x f g h) (one_value _ form w.0 is w.1) gives)
 
   joined : (bound n : ℕ) → n < bound → Joins n
   joined zero n l = absurd (omega arith)

@@ -21,17 +21,20 @@ use Rattle.indexes.specs.declared.keys.Key.TheVariants.{Whole}
 use Rattle.indexes.specs.Keys.{by_chain, by_end, by_filler, by_restricted, class_key, property_key}
 use Rattle.indexes.specs.FormsUnderKeys.{IsUnder, is_key, numbers_under}
 use Rattle.indexes.specs.Groups.{is_link}
+use Rattle.inference.specs.declared.fillers.Fillers.{Fillers}
 use Rattle.inference.specs.declared.joins.Joins.{Joins}
 use Rattle.inference.specs.declared.plans.PlannedChain.{PlannedChain}
-use Rattle.inference.specs.Joins.{AreJoins, HasMask}
+use Rattle.inference.specs.Joins.{AreFillers, AreJoins, HasMask}
 use Rattle.inference.specs.PropertyClosures.{IsClosureOf, PutsOnEdges}
 use Rattle.inference.specs.Sameness.{AreGroupsOf}
-use Rattle.inference.specs.Marks.{AreRestrictions, HasAbove, HasEnds, HasFilled, HasSeconds}
+use Rattle.inference.specs.Marks.{HasAbove, HasEnds, HasFilled, HasSeconds}
+use Rattle.inference.specs.Visits.{AreSpared}
+use Rattle.inference.proofs.Redundancy.{all_joined_still}
 use Rattle.inference.specs.Plans.{IsPlan}
 use Rattle.saturate.specs.declared.counts.Counts.{Counts}
 use Rattle.saturate.specs.Counts.{HasNames, IsMore}
 use Rattle.saturate.specs.Growth.{EachFrom}
-use Rattle.saturate.specs.Summaries.{LeavesClosure, LeavesGroups, LeavesJoins}
+use Rattle.saturate.specs.Summaries.{LeavesClosure, LeavesFillers, LeavesGroups, LeavesJoins}
 use Rattle.saturate.proofs.Fresh.{upper_there}
 use Rattle.saturate.proofs.Naming.{property_stays}
 use Rattle.saturate.proofs.Staying.{added}
@@ -145,24 +148,52 @@ no_link (N9 _ _ _) h = refl
 no_link (N10 _ _) h = absurd h
 no_link (N12 _ _ _) h = refl
 
-record IsUnjoined (form : Form) : Type 0 where
+record IsUnfilled (form : Form) : Type 0 where
   filler : by_filler form ≡ None
   restricted : by_restricted form ≡ None
+
+unfilled : (form : Form) → LeavesFillers form → IsUnfilled form
+unfilled (N1 _ _) h = record { filler = refl; restricted = refl }
+unfilled (N2 _ _ _) h = record { filler = refl; restricted = refl }
+unfilled (N3 _ _ _) h = record { filler = refl; restricted = refl }
+unfilled (N4 _ _ _) h = absurd h
+unfilled (N5 _ _) h = record { filler = refl; restricted = refl }
+unfilled (N6 _ _ _) h = record { filler = refl; restricted = refl }
+unfilled (N7 _) h = record { filler = refl; restricted = refl }
+unfilled (N8 _ _) h = record { filler = refl; restricted = refl }
+unfilled (N9 _ _ _) h = record { filler = refl; restricted = refl }
+unfilled (N10 _ _) h = record { filler = refl; restricted = refl }
+unfilled (N12 _ _ _) h = record { filler = refl; restricted = refl }
+
+record IsUnjoined (form : Form) : Type 0 where
   chain : by_chain form ≡ None
   end : by_end form ≡ None
 
 unjoined : (closure : Known) (joins : Joins) (form : Form) → LeavesJoins closure joins form → IsUnjoined form
-unjoined closure joins (N1 _ _) h = record { filler = refl; restricted = refl; chain = refl; end = refl }
-unjoined closure joins (N2 _ _ _) h = record { filler = refl; restricted = refl; chain = refl; end = refl }
-unjoined closure joins (N3 _ _ _) h = record { filler = refl; restricted = refl; chain = refl; end = refl }
+unjoined closure joins (N1 _ _) h = record { chain = refl; end = refl }
+unjoined closure joins (N2 _ _ _) h = record { chain = refl; end = refl }
+unjoined closure joins (N3 _ _ _) h = record { chain = refl; end = refl }
 unjoined closure joins (N4 _ _ _) h = absurd h
-unjoined closure joins (N5 _ _) h = record { filler = refl; restricted = refl; chain = refl; end = refl }
+unjoined closure joins (N5 _ _) h = record { chain = refl; end = refl }
 unjoined closure joins (N6 _ _ _) h = absurd h
-unjoined closure joins (N7 _) h = record { filler = refl; restricted = refl; chain = refl; end = refl }
-unjoined closure joins (N8 _ _) h = record { filler = refl; restricted = refl; chain = refl; end = refl }
-unjoined closure joins (N9 _ _ _) h = record { filler = refl; restricted = refl; chain = refl; end = refl }
-unjoined closure joins (N10 _ _) h = record { filler = refl; restricted = refl; chain = refl; end = refl }
-unjoined closure joins (N12 _ _ _) h = record { filler = refl; restricted = refl; chain = refl; end = refl }
+unjoined closure joins (N7 _) h = record { chain = refl; end = refl }
+unjoined closure joins (N8 _ _) h = record { chain = refl; end = refl }
+unjoined closure joins (N9 _ _ _) h = record { chain = refl; end = refl }
+unjoined closure joins (N10 _ _) h = record { chain = refl; end = refl }
+unjoined closure joins (N12 _ _ _) h = record { chain = refl; end = refl }
+
+leaves_fillers : (closure : Known) (joins : Joins) (form : Form) → LeavesJoins closure joins form → LeavesFillers form
+leaves_fillers closure joins (N1 _ _) h = tt
+leaves_fillers closure joins (N2 _ _ _) h = tt
+leaves_fillers closure joins (N3 _ _ _) h = tt
+leaves_fillers closure joins (N4 _ _ _) h = absurd h
+leaves_fillers closure joins (N5 _ _) h = tt
+leaves_fillers closure joins (N6 _ _ _) h = absurd h
+leaves_fillers closure joins (N7 _) h = tt
+leaves_fillers closure joins (N8 _ _) h = tt
+leaves_fillers closure joins (N9 _ _ _) h = tt
+leaves_fillers closure joins (N10 _ _) h = tt
+leaves_fillers closure joins (N12 _ _ _) h = tt
 
 -- ---- where such forms are added
 
@@ -183,26 +214,56 @@ last_step : (forms : List Form) (p q : PropId2) (s : PropId) → q ≡ Property 
 last_step forms p _ s e same = inl refl
 last_step forms p _ s e (step r t h there) = inr (r, subst (λ (x : PropId). Contains forms (N5 r x)) (let f : Property t ≡ Property s = e in cc) there)
 
+-- what restrictions need, where none is added
+module _ (forms more : List Form) (plain : (form : Form) → Contains more form → LeavesFillers form) where
+  filled_still : (mask : ℕ) (c : Class2) → HasFilled forms mask c → HasFilled (forms ++ more) mask c
+  filled_still mask c has = record {
+    restrictions = λ n under r a b at. ⊎_elim
+        (λ before. has.restrictions n (under_before by_filler forms more (λ form new. (unfilled form (plain form new)).filler) (class_key c) n under) r a b before)
+        (λ new. absurd (plain (N4 r a b) new))
+        (at_front_or_behind forms more n (N4 r a b) at);
+    all = has.all;
+  }
+
+  fillers_still : (fillers : Fillers) → AreFillers forms fillers → AreFillers (forms ++ more) fillers
+  fillers_still fillers of = record {
+    filled = λ n mask at. filled_still mask _ (of.filled n mask at);
+    restrictions = λ r. of.restrictions r ∙ sym (all_still by_restricted forms more (λ form new. (unfilled form (plain form new)).restricted) (Whole r));
+  }
+
 module _ (forms more : List Form) (closure : Known) (joins : Joins) (plain : (form : Form) → Contains more form → LeavesJoins closure joins form)
     (is : IsClosureOf forms closure) (within : All (IsPropertyFormOf closure.properties closure.partials) closure.forms) where
   abbrev IsMasked : PropId2 → Type 0
   IsMasked (Property r) = HasMask joins r.0
   IsMasked (Partial n) = ⊥
 
-  -- no path to a property that is not there begins with one that has a mask
-  none_leads : (p : PropId2) (s t : PropId) → IsMasked p → IsAtOrBelow forms p (Property s) → LeavesJoins closure joins (N5 s t) → ⊥
-  none_leads p s t masked path leaves = ⊎_elim
-      (λ e. leaves.0 (subst IsMasked e masked))
+  -- no form that is added puts the property below another
+  abbrev IsOld : PropId2 → Type 0
+  IsOld p = (s t : PropId) → LeavesJoins closure joins (N5 s t) → p ≡ Property s → ⊥
+
+  masked_is_old : (p : PropId2) → IsMasked p → IsOld p
+  masked_is_old p masked s t leaves e = leaves.0 (subst IsMasked e masked)
+
+  known_is_old : (p : PropId2) → Has closure p → IsOld p
+  known_is_old p has s t leaves e = leaves.1 (subst (Has closure) e has)
+
+  -- no path to a property that is not there begins with such
+  none_leads : (p : PropId2) (s t : PropId) → IsOld p → IsAtOrBelow forms p (Property s) → LeavesJoins closure joins (N5 s t) → ⊥
+  none_leads p s t old path leaves = ⊎_elim
+      (λ e. old s t leaves e)
       (λ w. leaves.1 (upper_there forms closure is within w.0 s w.1))
       (last_step forms p (Property s) s refl path)
 
   -- so no path that begins there is new
-  below_before : (p q : PropId2) → IsMasked p → IsAtOrBelow (forms ++ more) p q → IsAtOrBelow forms p q
-  below_before p _ masked same = same
-  below_before p _ masked (step s t h there) = ⊎_elim
-      (λ before. step s t (below_before p (Property s) masked h) before)
-      (λ new. absurd (none_leads p s t masked (below_before p (Property s) masked h) (plain (N5 s t) new)))
+  path_before : (p q : PropId2) → IsOld p → IsAtOrBelow (forms ++ more) p q → IsAtOrBelow forms p q
+  path_before p _ old same = same
+  path_before p _ old (step s t h there) = ⊎_elim
+      (λ before. step s t (path_before p (Property s) old h) before)
+      (λ new. absurd (none_leads p s t old (path_before p (Property s) old h) (plain (N5 s t) new)))
       (Contains-append_cases forms more (N5 s t) there)
+
+  below_before : (p q : PropId2) → IsMasked p → IsAtOrBelow (forms ++ more) p q → IsAtOrBelow forms p q
+  below_before p q masked = path_before p q (masked_is_old p masked)
 
   chain_before : (n : ℕ) (r s t : PropId2) → slice_get (forms ++ more) n ≡ Some (N6 r s t) → slice_get forms n ≡ Some (N6 r s t)
   chain_before n r s t at = ⊎_elim (λ before. before) (λ new. absurd (plain (N6 r s t) new)) (at_front_or_behind forms more n (N6 r s t) at)
@@ -219,31 +280,26 @@ module _ (forms more : List Form) (closure : Known) (joins : Joins) (plain : (fo
   above_still : (mask : ℕ) (p : PropId2) → IsMasked p → HasAbove forms mask p → HasAbove (forms ++ more) mask p
   above_still mask p masked has r below = has r (below_before p r masked below)
 
-  filled_still : (mask : ℕ) (c : Class2) → HasFilled forms mask c → HasFilled (forms ++ more) mask c
-  filled_still mask c has = record {
-    restrictions = λ n under r a b at. ⊎_elim
-        (λ before. has.restrictions n (under_before by_filler forms more (λ form new. (unjoined closure joins form (plain form new)).filler) (class_key c) n under) r a b before)
-        (λ new. absurd (plain (N4 r a b) new))
-        (at_front_or_behind forms more n (N4 r a b) at);
-    all = has.all;
-  }
-
-  restrictions_still : (lists : List (List ℕ)) → AreRestrictions forms lists → AreRestrictions (forms ++ more) lists
-  restrictions_still lists are r = are r ∙ sym (all_still by_restricted forms more (λ form new. (unjoined closure joins form (plain form new)).restricted) (Whole r))
-
   plan_still : (p : PropId2) (plan : List PlannedChain) → IsMasked p → IsPlan forms p plan → IsPlan (forms ++ more) p plan
   plan_still p plan masked of = record {
     say = λ c there. at_front forms more c.number (N6 c.first c.second c.whole) (of.say c there);
     has = λ r below n under. of.has r (below_before p r masked below) n (by_chain_before (property_key r) n under);
   }
 
+  -- a chain's whole is a property that the closure has, so no path from it is new, and no chain is
+  spared_still : (row : List Bool) → AreSpared forms row → AreSpared (forms ++ more) row
+  spared_still row spared n a b c s has at below m r t there =
+      let before = chain_before n a b c at in
+      let whole : Has closure c = is.has (N6 a b c) (Contains-from_slice_get forms n (N6 a b c) before) c refl in
+      all_joined_still forms more r a b t (spared n a b c s has before (path_before c s (known_is_old c whole) below) m r t (chain_before m r s t there))
+
   joins_still : AreJoins forms joins → AreJoins (forms ++ more) joins
   joins_still of = record {
     seconds = λ n mask at. seconds_still mask (Property (record { 0 = n })) (inl (slice_get_within joins.seconds.items n mask at)) (of.seconds n mask at);
     ends = λ n mask at. ends_still mask (Property (record { 0 = n })) (inr (inl (slice_get_within joins.ends.items n mask at))) (of.ends n mask at);
     above = λ n mask at. above_still mask (Property (record { 0 = n })) (inr (inr (inl (slice_get_within joins.above.items n mask at)))) (of.above n mask at);
-    filled = λ n mask at. filled_still mask _ (of.filled n mask at);
-    restrictions = restrictions_still joins.restrictions of.restrictions;
+    spared = spared_still joins.spared of.spared;
+    fillers = fillers_still forms more (λ form new. leaves_fillers closure joins form (plain form new)) joins.fillers.value of.fillers;
     plans = λ n plan at. plan_still (Property (record { 0 = n })) plan (inr (inr (inr (slice_get_within joins.plans n plan at)))) (of.plans n plan at);
   }
 
@@ -262,6 +318,10 @@ module _ (forms : List Form) (from : ℕ) where
       → All (IsPropertyFormOf closure.properties closure.partials) closure.forms → AreJoins (take from forms) joins → AreJoins forms joins
   joins_kept closure joins each is within of =
       subst (λ (all : List Form). AreJoins all joins) (take-append-drop from forms) (joins_still (take from forms) (drop from forms) closure joins (added (LeavesJoins closure joins) from forms each) is within of)
+
+  pub fillers_kept : (fillers : Fillers) → EachFrom LeavesFillers from forms → AreFillers (take from forms) fillers → AreFillers forms fillers
+  fillers_kept fillers each of =
+      subst (λ (all : List Form). AreFillers all fillers) (take-append-drop from forms) (fillers_still (take from forms) (drop from forms) (added LeavesFillers from forms each) fillers of)
 
   -- a closure that has grown by the others
   pub closure_grown : (closure known : Known) (counts : Counts) → IsMore (record { properties = closure.properties; partials = closure.partials }) counts

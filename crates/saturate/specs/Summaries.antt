@@ -41,3 +41,8 @@ LeavesJoins closure joins (N4 r a b) = ⊥
 LeavesJoins closure joins (N5 r s) = ¬ HasMask joins r.0 × ¬ Has closure (Property r)
 LeavesJoins closure joins (N6 r s t) = ⊥
 LeavesJoins closure joins _ = Unit {0}
+
+-- the form is no restriction
+abbrev pub LeavesFillers : Form → Type 0
+LeavesFillers (N4 r a b) = ⊥
+LeavesFillers _ = Unit {0}

@@ -5,7 +5,7 @@ ghost use Rattle.inference.specs.Sameness.{AreGroupsOf};
 ghost use Rattle.normal_forms.specs.declared.forms.PropId2.TheVariants as properties;
 ghost use Rattle.property_closure.specs.PropertyClosures.{Has};
 ghost use Rattle.saturate.specs.Growth.{EachFrom};
-ghost use Rattle.saturate.specs.Summaries.{IsSummaryOf, LeavesClosure, LeavesGroups, LeavesJoins};
+ghost use Rattle.saturate.specs.Summaries.{IsSummaryOf, LeavesClosure, LeavesFillers, LeavesGroups, LeavesJoins};
 ghost use Rattle.std.specs.Prelude.{◌≡◌, ◌↔◌, ◌≤◌, IfOk, IsTrue, drop, length, take};
 
 use crate::counts::{Counts, counted};
@@ -115,6 +115,25 @@ fn leave_joins(closure: &PropertyClosure, joins: &Joins, forms: &FormList, from:
     true
 }
 
+/// Whether the form is no restriction.
+fn leaves_fillers(form: Form) -> bool
+    ensures { IsTrue result ↔ LeavesFillers form }
+{
+    !matches!(form, Form::N4(..))
+}
+
+/// Whether none of the forms from that number on is a restriction.
+fn leave_fillers(forms: &FormList, from: usize) -> bool
+    ensures { IsTrue result ↔ EachFrom LeavesFillers from forms.now }
+{
+    for number in from..forms.len() {
+        if !leaves_fillers(forms.at(number)) {
+            return false;
+        }
+    }
+    true
+}
+
 /// The forms from that number on.
 fn forms_from(alloc: Global, forms: &FormList, from: usize) -> Result<FormList, Memory>
     requires { from ≤ length forms.now }
@@ -213,6 +232,10 @@ impl Summary {
         before.well_formed();
         if leave_joins(before, self.joins.as_ref(), problem.forms(), from) {
             return Ok(self.joins.clone()?);
+        }
+        if leave_fillers(problem.forms(), from) {
+            let joins = self.joins.as_ref().with_chains(alloc, problem, closure)?;
+            return Ok(Rc::new(alloc, joins)?);
         }
         Ok(Rc::new(alloc, Joins::of(alloc, problem, closure)?)?)
     }

@@ -10,7 +10,7 @@ use Rattle.inference.proofs.joins.Joins.restrictions.Goals as goal
 pub returns-in-Property : goal.returns-in-Property
 returns-in-Property c = λ forms are n.
     let p = c.in-Property.property in
-    let is : c.at.result.now ≡ numbers_under by_restricted (slice_get forms) (Whole p.0) (length forms) = c.at.ensures ∙ ap (list_at c.args.self.now.restrictions) c.index.ensures ∙ are.restrictions p.0 in
+    let is : c.at.result.now ≡ numbers_under by_restricted (slice_get forms) (Whole p.0) (length forms) = c.at.ensures ∙ ap (λ fillers. list_at fillers.restrictions c.index.result) c.as_ref.ensures ∙ ap (list_at c.args.self.now.fillers.value.restrictions) c.index.ensures ∙ are.fillers.restrictions p.0 in
     rw c.in-Property.is (
       λ there. (numbers_are_under by_restricted (slice_get forms) (Whole p.0) (length forms) n (subst (λ (l : List ℕ). Contains l n) is there)).1,
       λ under. subst (λ (l : List ℕ). Contains l n) (sym is) (under_are_numbers by_restricted (slice_get forms) (Whole p.0) (length forms) n (slice_get_within forms n under.0 under.1) under),
