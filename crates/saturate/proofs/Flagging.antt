@@ -39,17 +39,21 @@ none_past flags new i more past n high =
     let ne : n ≢ i = omega (arith, high) in
     more.others n ne ∙ past n (omega (arith, high))
 
--- no flag more: the fact is not such
-pub flag_passed : (P : Fact → Type 0) (facts : List Fact) (flags : List Bool) (i : ℕ) → ((f : Fact) → slice_get facts i ≡ Some f → ¬ P f) → is_flagged flags i ≡ false
-    → ((n : ℕ) → n < i → IsFlagged P facts flags n)
-    → (n : ℕ) → n < i + 1 → IsFlagged P facts flags n
-flag_passed P facts flags i not off before = below_more (IsFlagged P facts flags) i before
-    (record { yes = λ e. absurd (false≢true (sym off ∙ e)); no = λ _ h. not h.0 h.1 h.2 })
+-- no flag more: the facts up to another are not such
+pub flags_passed : (P : Fact → Type 0) (facts : List Fact) (flags : List Bool) (from to : ℕ) → ((n : ℕ) (f : Fact) → from ≤ n → n < to → slice_get facts n ≡ Some f → ¬ P f)
+    → ((n : ℕ) → from ≤ n → is_flagged flags n ≡ false)
+    → ((n : ℕ) → n < from → IsFlagged P facts flags n)
+    → (n : ℕ) → n < to → IsFlagged P facts flags n
+flags_passed P facts flags from to not past before n low = ⊎_elim
+    (λ below. before n below)
+    (λ high. record { yes = λ e. absurd (false≢true (sym (past n high) ∙ e)); no = λ _ h. not n h.0 high low h.1 h.2 })
+    (cases_lt n from)
 
 pub flag_none : (P : Fact → Type 0) (facts : List Fact) (flags : List Bool) (i : ℕ) (f : Fact) → slice_get facts i ≡ Some f → ¬ P f → is_flagged flags i ≡ false
     → ((n : ℕ) → n < i → IsFlagged P facts flags n)
     → (n : ℕ) → n < i + 1 → IsFlagged P facts flags n
-flag_none P facts flags i f at not off before = flag_passed P facts flags i (λ g there is. not (subst P (one_value _ g f there at) is)) off before
+flag_none P facts flags i f at not off before = below_more (IsFlagged P facts flags) i before
+    (record { yes = λ e. absurd (false≢true (sym off ∙ e)); no = λ _ h. not (subst P (one_value _ h.0 f h.1 at) h.2) })
 
 -- ---- those that are flagged, and those that are such
 

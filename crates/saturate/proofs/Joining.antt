@@ -1,6 +1,6 @@
 -- What is redundant is there, where all facts are served: by way of the older two that gave the second edge.
-use Rattle.std.proofs.Common.{◌≡◌, ℕ, zero, suc, ◌<◌, ◌⊎◌, inl, inr, ⊎_elim, List, [], ◌∷◌, map, take, slice_get, Some, None, Option, Contains, refl, sym, subst, arith}
-use Rattle.std.proofs.lemmas.Option.{none-some, same_Some}
+use Rattle.std.proofs.Common.{◌≡◌, ℕ, zero, suc, ◌<◌, ◌⊎◌, inl, inr, ⊎_elim, List, [], ◌∷◌, length, map, take, slice_get, slice_index_or, Some, None, Option, Contains, ap, refl, sym, ◌∙◌, subst, arith}
+use Rattle.std.proofs.lemmas.Option.{none-some, same_Some, slice_get-get_or}
 use Rattle.std.proofs.Math.Logic.{∥∥₁_elim}
 use mathlib.Core.HLevel.{Σ_prop_path}
 use denote.Struct.Props as logic
@@ -92,7 +92,11 @@ below_both forms p q _ low (step s t h there) = step s t (below_both forms p q (
 
 -- facts that differ are there in one way at most
 there_once : (facts : List Fact) → AreDistinct facts → (h : Fact) → IsProp (Contains facts h)
-there_once facts distinct h x y = Σ_prop_path (λ n. Prim.hlevel logic.props) x y (distinct x.0 y.0 h (slice_get-at facts x.0 h x.1 x.2) (slice_get-at facts y.0 h y.1 y.2))
+there_once facts distinct h x y =
+    let Stands : ℕ → Type 0 = λ n. (n < length facts) × (slice_index_or facts n h ≡ h) in
+    let as_contained : (n : ℕ) × Stands n → Contains facts h = λ w. (w.0, w.1.0, w.1.1) in
+    ap as_contained
+    (Σ_prop_path {A = ℕ} {B = Stands} (λ n. Prim.hlevel logic.props) {u = (x.0, (x.1, x.2))} {v = (y.0, (y.1, y.2))} (distinct x.0 y.0 h (slice_get-get_or facts x.0 h x.1 ∙ ap Some x.2) (slice_get-get_or facts y.0 h y.1 ∙ ap Some y.2)))
 
 module _ {k : Problem} {d : Derived} (s : IsDerived k d) (complete : (f g : Fact) → Contains d.facts f → Contains d.facts g → DrawnUpToRedundancy k (f ∷ g ∷ []) d) where
   -- what a fact gives as the first of two is there, where the second stands at the place
@@ -120,19 +124,19 @@ module _ {k : Problem} {d : Derived} (s : IsDerived k d) (complete : (f g : Fact
       let half : Contains d.facts (Edge x are.middle w) = by_joined i (joins i one.0) r a are.middle are.front x y u w o p there o_below one.1 p_below y_is in
       by_joined j (joins j two.0) are.middle b t are.rest x w v z are.middle q half same two.1 q_below w_is
 
-  by_older : (n : ℕ) (r s t a b c : PropId2) → ∥ AreJoined k.forms r a b t ∥₁ → ((m : ℕ) → m < n → Joins m) → (f g h : Fact) → Contains d.facts f
+  by_older : (n : ℕ) (r e t a b c : PropId2) → ∥ AreJoined k.forms r a b t ∥₁ → ((m : ℕ) → m < n → Joins m) → (f g h : Fact) → Contains d.facts f
       → (places : List ℕ) (older : List Fact) → map (slice_get (take n d.facts)) places ≡ map Some older → Concludes k (N6 a b c) older g
-      → FromTwo k (N6 r s t) f g h → Contains d.facts h
-  by_older n r s t a b c joined joins f g h there places [] are from gives = absurd from
-  by_older n r s t a b c joined joins f g h there places (i ∷ []) are from gives = absurd from
-  by_older n r s t a b c joined joins f g h there places (i ∷ j ∷ l ∷ more) are from gives = absurd from
-  by_older n r s t a b c joined joins f g h there places (In _ _ ∷ j ∷ []) are from gives = absurd from
-  by_older n r s t a b c joined joins f g h there places (Edge _ _ _ ∷ In _ _ ∷ []) are from gives = absurd from
-  by_older n r s t a b c joined joins (In _ _) g h there places (Edge _ _ _ ∷ Edge _ _ _ ∷ []) are from gives = absurd gives
-  by_older n r s t a b c joined joins (Edge _ _ _) (In _ _) h there places (Edge _ _ _ ∷ Edge _ _ _ ∷ []) are from gives = absurd gives
-  by_older n r s t a b c joined joins (Edge _ _ _) (Edge _ _ _) h there [] (Edge _ _ _ ∷ Edge _ _ _ ∷ []) are from gives = absurd (cc)
-  by_older n r s t a b c joined joins (Edge _ _ _) (Edge _ _ _) h there (i ∷ []) (Edge _ _ _ ∷ Edge _ _ _ ∷ []) are from gives = absurd (cc)
-  by_older n r s t a b c joined joins (Edge x o y) (Edge u g v) h there (i ∷ j ∷ rest) (Edge y' p w ∷ Edge w' q z ∷ []) are from gives =
+      → FromTwo k (N6 r e t) f g h → Contains d.facts h
+  by_older n r e t a b c joined joins f g h there places [] are from gives = absurd from
+  by_older n r e t a b c joined joins f g h there places (i ∷ []) are from gives = absurd from
+  by_older n r e t a b c joined joins f g h there places (i ∷ j ∷ l ∷ more) are from gives = absurd from
+  by_older n r e t a b c joined joins f g h there places (In _ _ ∷ j ∷ []) are from gives = absurd from
+  by_older n r e t a b c joined joins f g h there places (Edge _ _ _ ∷ In _ _ ∷ []) are from gives = absurd from
+  by_older n r e t a b c joined joins (In _ _) g h there places (Edge _ _ _ ∷ Edge _ _ _ ∷ []) are from gives = absurd gives
+  by_older n r e t a b c joined joins (Edge _ _ _) (In _ _) h there places (Edge _ _ _ ∷ Edge _ _ _ ∷ []) are from gives = absurd gives
+  by_older n r e t a b c joined joins (Edge _ _ _) (Edge _ _ _) h there [] (Edge _ _ _ ∷ Edge _ _ _ ∷ []) are from gives = absurd (cc)
+  by_older n r e t a b c joined joins (Edge _ _ _) (Edge _ _ _) h there (i ∷ []) (Edge _ _ _ ∷ Edge _ _ _ ∷ []) are from gives = absurd (cc)
+  by_older n r e t a b c joined joins (Edge x o y) (Edge u g v) h there (i ∷ j ∷ rest) (Edge y' p w ∷ Edge w' q z ∷ []) are from gives =
       let first : slice_get (take n d.facts) i ≡ Some (Edge y' p w) = cc in
       let second : slice_get (take n d.facts) j ≡ Some (Edge w' q z) = cc in
       let g_is : Edge u g v ≡ Edge y' c z = from.3 in
@@ -146,8 +150,8 @@ module _ {k : Problem} {d : Derived} (s : IsDerived k d) (complete : (f g : Fact
   by_chain : (n : ℕ) (form : Form) (a b c : PropId2) → IsSparedBy k.forms a b form → ((m : ℕ) → m < n → Joins m) → (f g h : Fact) → Contains d.facts f
       → (places : List ℕ) (older : List Fact) → map (slice_get (take n d.facts)) places ≡ map Some older → Concludes k (N6 a b c) older g ⊎ IsOfNothing g
       → FromTwo k form f g h → Contains d.facts h
-  by_chain n (N6 r s t) a b c spared joins f g h there places older are (inl from) gives = by_older n r s t a b c spared joins f g h there places older are from gives
-  by_chain n (N6 r s t) a b c spared joins f g h there places older are (inr of) gives = absurd (second_is_edge k r s t f g h of gives)
+  by_chain n (N6 r e t) a b c spared joins f g h there places older are (inl from) gives = by_older n r e t a b c spared joins f g h there places older are from gives
+  by_chain n (N6 r e t) a b c spared joins f g h there places older are (inr of) gives = absurd (second_is_edge k r e t f g h of gives)
   by_chain n (N1 _ _) a b c spared joins f g h there places older are from gives = absurd spared
   by_chain n (N2 _ _ _) a b c spared joins f g h there places older are from gives = absurd spared
   by_chain n (N3 _ _ _) a b c spared joins f g h there places older are from gives = absurd spared

@@ -1,13 +1,15 @@
 -- The edges that chains that are added need as second premises come to be listed, and what was listed stays right.
-use Rattle.std.proofs.Common.{◌≡◌, ℕ, ◌<◌, ◌≤◌, inl, inr, ⊎_elim, List, length, slice_get, Some, Contains, refl, sym, subst, ◌∙◌, arith}
+use Rattle.std.proofs.Common.{◌≡◌, ℕ, ◌<◌, ◌≤◌, inl, inr, ⊎_elim, Bool, true, List, length, slice_get, Some, Contains, refl, sym, subst, ◌∙◌, arith}
+use Rattle.std.proofs.lemmas.Bool.{cases_lt}
 use Rattle.std.proofs.lemmas.Option.{slice_get_within}
 use Rattle.normal_forms.specs.declared.forms.Form.{Form}
 use Rattle.normal_forms.specs.declared.forms.Form.TheVariants.{N1, N2, N3, N4, N5, N6, N7, N8, N9, N10, N12}
 use Rattle.normal_forms.specs.declared.forms.PropId2.{PropId2}
+use Rattle.normal_forms.specs.declared.forms.PropId2.TheVariants.{Property, Partial}
 use Rattle.normal_forms.specs.Properties.{IsAtOrBelow}
 use Rattle.facts.specs.declared.contexts.Context.{Context}
 use Rattle.facts.specs.declared.contexts.Fact.{Fact}
-use Rattle.facts.specs.declared.contexts.Fact.TheVariants.{In, Edge}
+use Rattle.facts.specs.declared.contexts.Fact.TheVariants.{Edge}
 use Rattle.facts.specs.Closure.{Problem}
 use Rattle.indexes.specs.declared.index.Index.{Index}
 use Rattle.indexes.specs.Contexts.{at_context, AddsAt, IsSameAt}
@@ -15,12 +17,12 @@ use Rattle.indexes.specs.FactIndex.{IsFrom, IsIn, IsInto, IsSameButForSeconds, L
 use Rattle.indexes.specs.FormsUnderKeys.{IsUnder}
 use Rattle.indexes.specs.Keys.{by_end, property_key}
 use Rattle.inference.specs.Derivations.{Derived}
-use Rattle.inference.specs.Visits.{IsBy, IsClassFact, IsNotCarried}
-use Rattle.inference.specs.Completeness.{IsRedundantAsSecond}
+use Rattle.inference.specs.Kinds.{ArePassed, IsLacking}
+use Rattle.inference.specs.Visits.{IsNotCarried}
 use Rattle.indexes.specs.declared.by_context.ByContext.{ByContext}
 use Rattle.inference.proofs.Lists.{one_value}
 use Rattle.saturate.specs.IndexedFacts.{ListsFacts, ListsNeeded}
-use Rattle.saturate.specs.NewSeconds.{IsListedAsSecond, ListsMoreSeconds, NoneEndsFrom}
+use Rattle.saturate.specs.NewSeconds.{HasEnding, IsListedAsSecond, ListsMoreSeconds, NoneEndsFrom}
 
 -- ---- which chains are new
 
@@ -78,25 +80,18 @@ listed_as from k d index n x p y at there z q v is =
     source : {a b : Context} {r s : PropId2} {c d : Context} → Edge a r c ≡ Edge b s d → a ≡ b
     source e = cc
 
-needed_by_none : (from : ℕ) (k : Problem) (d : Derived) (index : Index) (n : ℕ) (x : Context) (p : PropId2) (y : Context) → slice_get d.facts n ≡ Some (Edge x p y) → NoneEndsFrom from k.forms p → IsListedAsSecond from k d index n
-needed_by_none from k d index n x p y at none z q v is =
-    let same : Edge x p y ≡ Edge z q v = one_value _ (Edge x p y) (Edge z q v) at is in
-    inr (inl (subst (NoneEndsFrom from k.forms) (property same) none))
+-- what is passed over need not be listed
+pub passed_listed : (from : ℕ) (k : Problem) (d : Derived) (index : Index) (row : List Bool) (next to : ℕ) → HasEnding from k.forms row
+    → ArePassed (record { classes = true; properties = row }) d.facts next to
+    → ((n : ℕ) → n < next → IsListedAsSecond from k d index n) → (n : ℕ) → n < to → IsListedAsSecond from k d index n
+passed_listed from k d index row next to has passed before n low = ⊎_elim
+    (λ below. before n below)
+    (λ high x p y at. inr (inl (lacking p (passed n (Edge x p y) high low at))))
+    (cases_lt n next)
   where
-    property : {a b : Context} {r s : PropId2} {c d : Context} → Edge a r c ≡ Edge b s d → r ≡ s
-    property e = cc
-
-no_edge : (from : ℕ) (k : Problem) (d : Derived) (index : Index) (n : ℕ) (f : Fact) → slice_get d.facts n ≡ Some f → ((x : Context) (p : PropId2) (y : Context) → ¬ (f ≡ Edge x p y)) → IsListedAsSecond from k d index n
-no_edge from k d index n f at other x p y is = absurd (other x p y (one_value _ f (Edge x p y) at is))
-
--- what a mark tells of a fact
-pub told_class : (from : ℕ) (k : Problem) (d : Derived) (index : Index) (n : ℕ) (f : Fact) → slice_get d.facts n ≡ Some f → IsClassFact f → IsListedAsSecond from k d index n
-told_class from k d index n (In a x) at is = no_edge from k d index n (In a x) at (λ z q v e. absurd (cc))
-told_class from k d index n (Edge x p y) at is = absurd is
-
-pub told_edge : (from : ℕ) (k : Problem) (d : Derived) (index : Index) (n : ℕ) (p : PropId2) (f : Fact) → slice_get d.facts n ≡ Some f → IsBy p f → NoneEndsFrom from k.forms p → IsListedAsSecond from k d index n
-told_edge from k d index n p (In a x) at is none = absurd is
-told_edge from k d index n p (Edge x q y) at is none = needed_by_none from k d index n x q y at (subst (NoneEndsFrom from k.forms) (sym is) none)
+    lacking : (p : PropId2) → IsLacking row p → NoneEndsFrom from k.forms p
+    lacking (Property p) lacks = has p.0 lacks.0 lacks.1
+    lacking (Partial n) lacks = absurd lacks
 
 pub still_listed_for : {d : Derived} {old new : Index} (from : ℕ) (k : Problem) (n : ℕ) → ListsMoreSeconds d.facts old new → IsListedAsSecond from k d old n → IsListedAsSecond from k d new n
 still_listed_for from k n more listed x p y at = ⊎_elim (λ there. inl (more.kept x n there)) (λ none. inr none) (listed x p y at)

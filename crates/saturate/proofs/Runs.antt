@@ -9,7 +9,7 @@ use Rattle.std.specs.List.{range_with_len}
 use Rattle.axioms.specs.WellFormedness.{AreDistinct}
 use Rattle.axioms.proofs.Growing.{AreDistinct-push}
 use Rattle.facts.specs.declared.contexts.Fact.{Fact}
-use Rattle.facts.specs.Closure.{Problem, none}
+use Rattle.facts.specs.Closure.{Problem}
 use Rattle.inference.specs.declared.known_facts.Stop.TheVariants.{Limit}
 use Rattle.inference.specs.Derivations.{Derived, Grows}
 use Rattle.inference.specs.Completeness.{IsClosure}

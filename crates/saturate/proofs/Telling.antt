@@ -1,18 +1,18 @@
 -- Facts for which no added form or list asks, told by their kinds.
-use Rattle.std.proofs.Common.{◌≡◌, ℕ, ⊎_elim, Bool, true, List, length, slice_get, Some, Contains, arith, subst}
+use Rattle.std.proofs.Common.{◌≡◌, ⊎_elim, Bool, true, false, List, length, replicate, Contains, refl, arith, subst}
+use Rattle.std.proofs.lemmas.Bool.{false≢true}
 use Rattle.normal_forms.specs.declared.forms.Form.{Form}
 use Rattle.normal_forms.specs.declared.forms.Form.TheVariants.{N1, N2, N3, N4, N5, N6, N7, N8, N9, N10, N12}
 use Rattle.normal_forms.specs.declared.forms.Class2.{Class2}
 use Rattle.normal_forms.specs.declared.forms.PropId2.{PropId2}
-use Rattle.normal_forms.specs.declared.forms.PropId2.TheVariants.{Property}
+use Rattle.normal_forms.specs.declared.forms.PropId2.TheVariants.{Property, Partial}
 use Rattle.property_closure.specs.PropertyClosures.{Known}
 use Rattle.facts.specs.declared.contexts.Context.{Context}
 use Rattle.facts.specs.declared.contexts.Fact.{Fact}
 use Rattle.facts.specs.declared.contexts.Fact.TheVariants.{In, Edge}
 use Rattle.facts.specs.Closure.{Problem}
 use Rattle.inference.specs.Visits.{IsBy, IsClassFact}
-use Rattle.inference.proofs.Lists.{one_value}
-use Rattle.saturate.specs.Requests.{Asks, HasNamed, IsAskedByForm, IsAskedByList, IsUnaskedUnder, LacksUnder, LeavesIndividuals, ListAsks, NamesAbove, NamesClass, ToldOf}
+use Rattle.saturate.specs.Requests.{AreUnasked, Asks, HasNamed, IsAskedByForm, IsAskedByList, IsUnaskedUnder, LacksUnder, LeavesIndividuals, ListAsks, NamesAbove, NamesClass}
 
 -- a form that names no class, makes no individuals one and denies no pair asks for nothing that is in a class
 class_asked : (all : List Form) (c : Class2) (x : Context) (form : Form) → LeavesIndividuals form → ¬ NamesClass form c → ¬ Asks all form (In c x)
@@ -57,14 +57,15 @@ module _ (closure : Known) (added : Problem) (leave : (form : Form) → Contains
       (λ (w : IsAskedByList added.apart.classes (Edge x q y)). let none : ListAsks w.0 (Edge x q y) = w.2 in none)
       asked
 
-  pub told_of : (none_named : Bool) (row : List Bool)
+  pub unasked : (none_named : Bool) (row : List Bool)
       → (none_named ≡ true → (length added.apart.classes ≡ 0) × ((form : Form) → Contains added.forms form → (a : Class2) → ¬ NamesClass form a))
-      → HasNamed closure added.forms row → ToldOf closure added none_named row
-  told_of none_named row none named = record {
-    classes = λ yes f is. no_class (none yes).1 (none yes).0 f is;
-    edges = λ p f low lacks is. no_edge (Property p) (named p.0 low lacks) f is;
-  }
+      → HasNamed closure added.forms row → AreUnasked closure added (record { classes = none_named; properties = row })
+  unasked none_named row none named (In c x) passed = no_class (none passed).1 (none passed).0 (In c x) tt
+  unasked none_named row none named (Edge x (Property p) y) passed = no_edge (Property p) (named p.0 passed.0 passed.1) (Edge x (Property p) y) refl
+  unasked none_named row none named (Edge x (Partial n) y) passed = absurd passed
 
--- what is told of a fact of that number is told of the fact that has it
-pub told_at : (closure : Known) (added : Problem) (facts : List Fact) (n : ℕ) (told f : Fact) → slice_get facts n ≡ Some told → slice_get facts n ≡ Some f → IsUnaskedUnder closure added told → IsUnaskedUnder closure added f
-told_at closure added facts n told f here there unasked = subst (IsUnaskedUnder closure added) (one_value _ told f here there) unasked
+-- no fact is of no kind
+pub none_unasked : (closure : Known) (added : Problem) → AreUnasked closure added (record { classes = false; properties = replicate 0 false })
+none_unasked closure added (In c x) passed = absurd (false≢true passed)
+none_unasked closure added (Edge x (Property p) y) passed = absurd (omega (arith, passed.0))
+none_unasked closure added (Edge x (Partial n) y) passed = absurd passed

@@ -22,7 +22,8 @@ use Rattle.facts.specs.declared.contexts.Fact.TheVariants.{In, Edge}
 use Rattle.facts.specs.Closure.{Problem, thing}
 use Rattle.indexes.specs.Apart.{IsInList}
 use Rattle.inference.specs.PropertyClosures.{IsClosureOf}
-use Rattle.inference.specs.Visits.{HasProperty, IsBy, IsClassFact}
+use Rattle.inference.specs.Kinds.{Kinds, IsPassed}
+use Rattle.inference.specs.Visits.{HasProperty}
 
 -- one of the two individuals
 abbrev pub IsOneOf : IndId → IndId → Context → Type 0
@@ -201,7 +202,6 @@ IsUnaskedUnder closure added f = (all : List Form) → IsClosureOf all closure �
 abbrev pub HasNamed : Known → List Form → List Bool → Type 0
 HasNamed closure added row = (k : ℕ) → k < length row → has row k ≡ false → LacksUnder closure (λ all form. NamesAbove all form (as_property k)) added
 
--- nothing that is in a class is asked for, where that is told, and no edge by a property that the row lacks
-pub record ToldOf (closure : Known) (added : Problem) (no_class : Bool) (row : List Bool) : Type 0 where
-  pub classes : no_class ≡ true → (f : Fact) → IsClassFact f → IsUnaskedUnder closure added f
-  pub edges : (p : PropId) (f : Fact) → p.0 < length row → has row p.0 ≡ false → IsBy (Property p) f → IsUnaskedUnder closure added f
+-- none of the added forms or lists asks for a fact of the kinds
+abbrev pub AreUnasked : Known → Problem → Kinds → Type 0
+AreUnasked closure added kinds = (f : Fact) → IsPassed kinds f → IsUnaskedUnder closure added f

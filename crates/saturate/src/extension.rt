@@ -21,7 +21,7 @@ use crate::new_forms::new_forms;
 use crate::new_lists::new_lists;
 use crate::new_seconds::list_seconds;
 use crate::queue::Queue;
-use crate::told_facts::ToldFacts;
+use crate::told_facts::passed_kinds;
 use axioms::Memory;
 use facts::Fact;
 use indexes::{Index, IndexedProblem};
@@ -48,14 +48,14 @@ fn looked_at_each(
     let end = expected_contexts(ground.problem()).min(u32::MAX as usize) as u32;
     let classes = named_classes(alloc, added, end)?;
     let edges = may_ask_for_some_edges(added);
-    let told = ToldFacts::of(alloc, added, closure)?;
+    let kinds = passed_kinds(alloc, added, closure)?;
     let mut flags = Flags::new(alloc, facts.len())?;
-    for place in 0..facts.len() as u32 {
-        if !told.passes(facts, place)
-            && asks_for(added, &classes, edges, closure, facts.get(place))
-        {
+    let mut from: usize = 0;
+    while let Some(place) = facts.next_besides(&kinds, from) {
+        if asks_for(added, &classes, edges, closure, facts.get(place)) {
             flags.add(place)?;
         }
+        from = place as usize + 1;
     }
     Ok(flags)
 }
@@ -125,7 +125,7 @@ fn index_kept(
     }
     let problem = ground.problem();
     let fact = facts.get(number);
-    let is_second = is_second_premise(problem, ground.closure(), facts, number);
+    let is_second = is_second_premise(problem, ground.closure(), ground.joins(), facts, number);
     let is_filler = is_filler(problem, fact);
     index.add(number, fact, is_second, is_filler)?;
     Ok(())

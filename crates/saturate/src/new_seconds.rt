@@ -1,8 +1,6 @@
 //! The edges that chains that are added need as second premises.
 ghost use Rattle.saturate.specs.Growth.{EachFrom, LeavesLists};
 ghost use Rattle.saturate.specs.NewSeconds.{HasEnding, IsListedAsSecond, ListsMoreSeconds, NoneEndsFrom};
-ghost use Rattle.facts.specs.Closure.{Problem};
-ghost use Rattle.indexes.specs.declared.index.Index.{Index as Index2};
 ghost use Rattle.inference.specs.Derivations.{IsDerived};
 ghost use Rattle.inference.specs.PropertyClosures.{IsClosureOf};
 ghost use Rattle.number_sets.specs.Members.{has};
@@ -14,7 +12,7 @@ use crate::ground::Ground;
 use axioms::{Memory, PropId};
 use facts::Fact;
 use indexes::{Index, IndexedProblem};
-use inference::{FactKind, KnownFacts, is_second_premise};
+use inference::{KnownFacts, PassedKinds, is_second_premise};
 use normal_forms::{Form, FormList, PropId2};
 use number_sets::Row;
 use property_closure::PropertyClosure;
@@ -133,13 +131,6 @@ fn is_needed(
     }
 }
 
-/// Whether the row tells of the property, and lacks it.
-pub(crate) fn lacks(row: &Row, property: PropId) -> bool
-    ensures { result ≡ true → (property.0 < length row.now) × (has row.now property.0 ≡ false) }
-{
-    property.index() < row.len() && !row.contains(property.index())
-}
-
 /// How long a list may be for it to be looked through for a number. It decides nothing.
 const SHORT: usize = 64;
 
@@ -148,18 +139,6 @@ fn stands_in(list: &[u32], number: u32) -> bool
     ensures { result ≡ true → Contains list.now number }
 {
     list.len() <= SHORT && list.contains(&number)
-}
-
-/// Whether a mark tells of the fact of that number that none of the forms need it as a second premise: it is no edge, or one by a property
-/// that the row lacks.
-fn is_passed(row: &Row, facts: &KnownFacts, number: u32) -> bool
-    ensures { result ≡ true → (from : ℕ) (k : Problem) (index : Index2) → HasEnding from k.forms row.now → IsListedAsSecond from k facts.now index number }
-{
-    match facts.kind_of(number) {
-        FactKind::InClass => true,
-        FactKind::EdgeBy(property) => lacks(row, property),
-        FactKind::Unknown => false,
-    }
 }
 
 /// Lists the fact of that number as a second premise, where it is an edge that one of the forms from the other number on needs as one, and
@@ -178,16 +157,19 @@ fn list_second(
     ensures more { ListsMoreSeconds facts.now.facts index.old index.new }
     ensures listed { OnOk result (IsListedAsSecond from ground.now facts.now index.new number) }
 {
-    if is_passed(row, facts, number) {
-        return Ok(());
-    }
     let Fact::Edge(source, property, _) = facts.get(number) else {
         return Ok(());
     };
     if !is_needed(ground.problem(), ground.closure(), from, row, property) {
         return Ok(());
     }
-    if !is_second_premise(ground.problem(), ground.closure(), facts, number) {
+    if !is_second_premise(
+        ground.problem(),
+        ground.closure(),
+        ground.joins(),
+        facts,
+        number,
+    ) {
         return Ok(());
     }
     if stands_in(index.second_premises_from(source), number) {
@@ -215,8 +197,11 @@ pub(crate) fn list_seconds(
         return Ok(());
     }
     let row = ending(alloc, problem, ground.closure(), from)?;
-    for number in 0..facts.len() as u32 {
-        list_second(ground, from, &row, facts, number, index)?;
+    let kinds = PassedKinds::new(alloc, true, row)?;
+    let mut next: usize = 0;
+    while let Some(number) = facts.next_besides(&kinds, next) {
+        list_second(ground, from, kinds.properties(), facts, number, index)?;
+        next = number as usize + 1;
     }
     Ok(())
 }

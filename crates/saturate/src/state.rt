@@ -325,7 +325,8 @@ impl<W: WorkList> State<W> {
         let fact = self.facts.get(hand);
         let problem = self.ground.problem();
         let closure = self.ground.closure();
-        let is_second = is_second_premise(problem, closure, &self.facts, hand);
+        let joins = self.ground.joins();
+        let is_second = is_second_premise(problem, closure, joins, &self.facts, hand);
         let is_filler = is_filler(problem, fact);
         let Ok(()) = self.index.add(hand, fact, is_second, is_filler) else {
             return Err(Stop::Memory);
@@ -334,7 +335,7 @@ impl<W: WorkList> State<W> {
             problem,
             closure,
             groups: self.ground.groups(),
-            joins: self.ground.joins(),
+            joins,
             max_facts,
         };
         let premise = Premise { number: hand, fact };

@@ -1,21 +1,16 @@
 //! Facts for which no added form or list asks, told by their kinds.
-ghost use Rattle.axioms.specs.declared.ids.PropId.{PropId as PropId3};
-ghost use Rattle.facts.specs.Closure.{Problem};
-ghost use Rattle.facts.specs.declared.contexts.Fact.{Fact as Fact2};
 ghost use Rattle.normal_forms.specs.declared.forms.Class2.{Class2 as AClass};
 ghost use Rattle.normal_forms.specs.declared.forms.Form.{Form as Form2};
 ghost use Rattle.number_sets.specs.Members.{has};
-ghost use Rattle.property_closure.specs.PropertyClosures.{Known};
 ghost use Rattle.property_closure.specs.Relations.{as_property};
-ghost use Rattle.saturate.specs.Requests.{HasNamed, IsUnaskedUnder, LacksUnder, LeavesIndividuals, NamesAbove, NamesClass, ToldOf};
-ghost use Rattle.std.specs.Prelude.{◌≡◌, ◌↔◌, ◌<◌, ◌≤◌, ◌^◌, ℕ, Contains, IfOk, IsTrue, Some, false, length, slice_get, true};
+ghost use Rattle.saturate.specs.Requests.{AreUnasked, HasNamed, LacksUnder, LeavesIndividuals, NamesAbove, NamesClass};
+ghost use Rattle.std.specs.Prelude.{◌≡◌, ◌↔◌, ◌<◌, ◌≤◌, ◌^◌, ℕ, Contains, IfOk, IsTrue, false, length, true};
 
 use crate::additions::asks_for_edges;
 use crate::named_classes::class_named;
-use crate::new_seconds::lacks;
 use axioms::{Memory, PropId};
 use indexes::IndexedProblem;
-use inference::{FactKind, KnownFacts};
+use inference::PassedKinds;
 use normal_forms::{Form, FormList, PropId2};
 use number_sets::Row;
 use property_closure::PropertyClosure;
@@ -81,47 +76,20 @@ fn named_properties(
     Ok(row)
 }
 
-/// What is told of facts by their kinds.
-#[derive(Drop)]
-pub(crate) struct ToldFacts {
-    /// None that is in a class is asked for.
-    no_class: bool,
-    /// No edge is asked for by a property that is not among these, of those up to the last of which it tells.
-    properties: Row,
-}
-
-impl ToldFacts {
-    /// What is told of added forms and lists; the closure is that of all forms.
-    pub(crate) fn of(
-        alloc: Global,
-        added: &IndexedProblem,
-        closure: &PropertyClosure,
-    ) -> Result<ToldFacts, Memory>
-        ensures { IfOk result (λ told. ToldOf closure.now added.now told.no_class told.properties) }
-    {
-        let forms = added.forms();
-        if !leave_individuals(forms) {
-            let properties = Row::new(alloc, 0)?;
-            return Ok(ToldFacts {
-                no_class: false,
-                properties,
-            });
-        }
-        let properties = named_properties(alloc, added, closure)?;
-        Ok(ToldFacts {
-            no_class: added.apart().classes.len() == 0 && name_no_class(forms),
-            properties,
-        })
+/// The kinds of facts for which none of the added forms or lists asks; the closure is that of all forms.
+pub(crate) fn passed_kinds(
+    alloc: Global,
+    added: &IndexedProblem,
+    closure: &PropertyClosure,
+) -> Result<PassedKinds, Memory>
+    ensures { IfOk result (AreUnasked closure.now added.now) }
+{
+    let forms = added.forms();
+    if !leave_individuals(forms) {
+        let none = Row::new(alloc, 0)?;
+        return PassedKinds::new(alloc, false, none);
     }
-
-    /// Whether it is told by its kind that the fact of that number is not asked for.
-    pub(crate) fn passes(&self, facts: &KnownFacts, number: u32) -> bool
-        ensures { result ≡ true → (closure : Known) (added : Problem) → ToldOf closure added self.now.no_class self.now.properties → (f : Fact2) → slice_get facts.now.facts number ≡ Some f → IsUnaskedUnder closure added f }
-    {
-        match facts.kind_of(number) {
-            FactKind::InClass => self.no_class,
-            FactKind::EdgeBy(property) => lacks(&self.properties, property),
-            FactKind::Unknown => false,
-        }
-    }
+    let properties = named_properties(alloc, added, closure)?;
+    let no_class = added.apart().classes.len() == 0 && name_no_class(forms);
+    PassedKinds::new(alloc, no_class, properties)
 }
