@@ -279,6 +279,24 @@ pub(crate) const ALL_GO_ON: &[Problem] = &[
         facts: 15,
         born: None,
     },
+    // Four individuals, by s, r and s each before the next; s is below the transitive r, r then s below s, and s then r below r: that is
+    // 3 edges as stated, 0 to 2 by r, and 1 to 3 and 0 to 3 by both. What s then r gives leads on by r, which is transitive.
+    Problem {
+        name: "transitive_and_chained_with_what_is_below",
+        forms: &[
+            Form::N6(EDGES_R, EDGES_R, EDGES_R),
+            Form::N5(S, R),
+            Form::N9(IndId(0), S, IndId(1)),
+            Form::N9(IndId(1), R, IndId(2)),
+            Form::N9(IndId(2), S, IndId(3)),
+            Form::N6(EDGES_R, EDGES_S, EDGES_S),
+            Form::N6(EDGES_S, EDGES_R, EDGES_R),
+        ],
+        different: &[],
+        roots: &[IND0],
+        facts: 12,
+        born: None,
+    },
 ];
 
 /// Problems in which such an edge has to.

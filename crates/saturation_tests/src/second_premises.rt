@@ -1,4 +1,4 @@
-//! Edges that a transitive property gave are no second premises where each chain that they could end goes on.
+//! Edges that a chain gave are no second premises where what each chain that they could end gives comes of the older two, one after the other.
 ghost use Rattle.std.specs.Prelude.{◌≡◌, []};
 
 use crate::adding::add;
