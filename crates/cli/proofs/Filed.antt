@@ -12,7 +12,6 @@ use Rattle.command_line.specs.declared.tasks.Paths.{Paths}
 use Rattle.device.specs.declared.device.Sink as sinks
 use Rattle.program.specs.declared.limits.Limits.{Limits}
 use Rattle.program.specs.declared.status.Status.{Status}
-use Rattle.program.specs.declared.status.Status.TheVariants as statuses
 use Rattle.program.specs.declared.version.Version.{Version}
 use Rattle.session.proofs.Calls.{edits_are_one_document}
 use Rattle.telling.proofs.Told.{progress_behind}

@@ -1,5 +1,5 @@
 -- What a session infers that is written into a file.
-use Rattle.std.proofs.Common.{◌≡◌, ◌∙◌, ℕ, List, Bool, Err}
+use Rattle.std.proofs.Common.{◌≡◌, ℕ, List, Bool, Err}
 use Rattle.classification.specs.declared.classification.Summary.{Summary}
 use Rattle.receiving.proofs.Counted.{IsCounted, some_failed}
 use Rattle.receiving.proofs.Stored.{IsLeftBy, sink_begins}

@@ -14,7 +14,6 @@ use Rattle.program.specs.declared.version.Version.{Version}
 use Rattle.session.specs.TextAnswers.{AnswersQuery, IsFaultOf, IsReadAs, IsRunAs}
 use Rattle.session.specs.declared.question_fault.QuestionFault.{QuestionFault}
 use Rattle.session.specs.declared.question_fault.QuestionFault.TheVariants.{Document, Limit, UnknownName, Expression, Memory}
-use Rattle.session.specs.declared.query_fault.QueryFault.TheVariants as querying
 
 pub read_as_file : (version : Version) (file left : Option (List ℕ)) (most : ℕ) (o : Ontology) → Keeps file left → IsReadAs version most left o → IsReadAs version most file o
 read_as_file version file left most o kept is = record { reads = reads_file version file left most o kept is.reads; taken = is.taken }
