@@ -32,6 +32,8 @@ mod numbered;
 #[cfg(test)]
 mod orders;
 #[cfg(test)]
+mod passed_kinds;
+#[cfg(test)]
 mod problems;
 #[cfg(test)]
 mod refused_pushes;
