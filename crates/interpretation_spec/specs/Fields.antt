@@ -6,7 +6,8 @@ use Rattle.std.specs.Ordering.{nat_cmp}
 use Rattle.std.specs.BTreeMap.{BTreeMap, get}
 use Rattle.std.specs.Global.{Vec}
 use Rattle.interpretation_spec.specs.declared.interpretation.Interpretation.TheInside.{Inside}
-use Rattle.interpretation_spec.specs.NumberedInterpretation.{NumberedInterpretation}
+use Rattle.interpretation_spec.specs.Members.{AreHeld}
+use Rattle.interpretation_spec.specs.NumberedInterpretation.{IsNumberedInterpretation, NumberedInterpretation}
 
 -- the targets that are kept for a source
 abbrev pub kept_targets : BTreeMap ℕ (Vec ℕ) → ℕ → List ℕ
@@ -23,3 +24,8 @@ kept_interpretation i = record {
   pairs = map (kept_pairs i.size) i.pairs.items;
   individuals = i.individuals.items;
 }
+
+-- it is well formed, and which classes have elements is kept beside it
+pub record IsKept (i : Inside) : Type 0 where
+  pub numbered : IsNumberedInterpretation (kept_interpretation i)
+  pub held : AreHeld i.classes.items i.held

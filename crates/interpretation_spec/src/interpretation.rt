@@ -1,11 +1,14 @@
 //! A finite interpretation of an ontology's names.
 ghost use Rattle.std.specs.Prelude.{◌≡◌, ◌<◌, ◌↔◌, IfOk, IfErr, IsOk, OnOk, if◌then◌else◌, ◌==◌, length, slice_get, option_map, option_and_then, replicate, true, false, ◌∷◌, ◌-◌};
 ghost use Rattle.interpretation_spec.specs.declared.fault.InterpretationFault.TheVariants as faults;
+ghost use Rattle.interpretation_spec.specs.Members.{has_elements};
 ghost use Rattle.interpretation_spec.specs.NumberedInterpretation.{IsNumberedInterpretation, empty_interpretation, with_individual, with_member, with_pair};
+ghost use Rattle.std.specs.List.{filter, range_with_len};
 ghost use Rattle.interpretation_spec.specs.Refusals.{class_refusal, pair_refusal};
 
 use crate::fault::InterpretationFault;
 use crate::pairs::{put_target, targets_in, without_pairs};
+use crate::set_members::members;
 use axioms::{ClassId, IndId, Memory, Ontology, PropId};
 use number_sets::Row;
 use std::alloc::Global;
@@ -21,6 +24,8 @@ pub struct Interpretation {
     // the targets of each source, ascending, by property
     pub(crate) pairs: Vec<BTreeMap<usize, Vec<usize>>>,
     pub(crate) individuals: Vec<usize>,
+    // the classes but `owl:Thing` that have elements
+    pub(crate) held: Row,
 }
 
 // A value is let go by one call, where each way out would else let each field go.
@@ -32,6 +37,7 @@ impl Drop for Interpretation {
             classes: _,
             pairs: _,
             individuals: _,
+            held: _,
         } = self;
     }
 }
@@ -41,12 +47,11 @@ impl Model for Interpretation {
 
     ghost Value = { NumberedInterpretation };
 
-    ghost use Rattle.interpretation_spec.specs.NumberedInterpretation.{IsNumberedInterpretation};
-    ghost use Rattle.interpretation_spec.specs.Fields.{kept_interpretation};
+    ghost use Rattle.interpretation_spec.specs.Fields.{IsKept, kept_interpretation};
 
     ghost view = { kept_interpretation };
 
-    ghost invariant = { λ i. IsNumberedInterpretation (kept_interpretation i) };
+    ghost invariant = { IsKept };
 }
 
 impl Interpretation {
@@ -62,12 +67,15 @@ impl Interpretation {
         if size == 0 {
             return Err(InterpretationFault::EmptyDomain);
         }
+        let classes = empty_classes(alloc, ontology.classes().len(), size)?;
+        let held = Row::new(alloc, classes.len())?;
         Ok(Interpretation {
             alloc,
             size,
-            classes: empty_classes(alloc, ontology.classes().len(), size)?,
+            classes,
             pairs: without_pairs(alloc, ontology.properties().len())?,
             individuals: vec![in alloc; 0; ontology.individuals().len()]?,
+            held,
         })
     }
 
@@ -92,6 +100,18 @@ impl Interpretation {
         ensures { option_map (λ row. row.now) result ≡ slice_get self.now.classes class.0 }
     {
         self.classes.get(class.0 as usize)
+    }
+
+    /// The numbers of the classes but `owl:Thing` that have elements, ascending. No other class is looked at.
+    ///
+    /// # Errors
+    ///
+    /// `Memory` where memory was refused.
+    pub fn classes_with_elements(&self, alloc: Global) -> Result<Vec<usize>, Memory>
+        ensures { IfOk result
+            (λ v. v.items ≡ filter (has_elements self.now) (range_with_len 1 (length self.now.classes - 1))) }
+    {
+        members(alloc, &self.held)
     }
 
     /// The element of the individual. `None` where there is no such individual.
@@ -144,6 +164,7 @@ impl Interpretation {
         }
         let row = &mut self.classes[class.0 as usize];
         row.put(element);
+        self.held.put(class.0 as usize);
         Ok(())
     }
 
@@ -175,7 +196,7 @@ impl Interpretation {
 fn empty_classes(alloc: Global, count: usize, size: usize) -> Result<Vec<Row>, Memory>
     ensures { IfOk result (λ rows. rows.items ≡ replicate size true ∷ replicate (count - 1) (replicate size false)) }
 {
-    let mut rows = Vec::new(alloc);
+    let mut rows = Vec::with_capacity(alloc, count)?;
     rows.push(Row::full(alloc, size)?)?;
     for _ in 1..count {
         rows.push(Row::new(alloc, size)?)?;
