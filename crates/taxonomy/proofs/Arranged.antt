@@ -1,7 +1,6 @@
 -- Numbers of classes, put in the byte order of their names.
 use Rattle.std.proofs.Common.{◌≡◌, ℕ, ◌+◌, ◌<◌, ◌≤◌, List, [], ◌∷◌, ◌++◌, length, Bool, true, false, not, cond, eqb, ltb, ◌&&◌, ◌||◌, inl, inr, refl, sym, ap, ap₂, subst, ◌∙◌, ⊎_elim, arith, zero-add}
 use Rattle.std.specs.List.{All, filter, list_any}
-use Rattle.std.specs.List.Sorted.{IsPermutation}
 use Rattle.std.proofs.lemmas.Bool.{and_from, and_parts, cases_lt, eq-eqb, eqb-true, false_from_ne_true, false≢true, le-ltb, lt-ltb, or_cases, or_left, or_right}
 use Rattle.std.proofs.lemmas.List.Sorted.{ranks_by}
 use Rattle.std.proofs.Math.Bool.{and-true, and_comm}
@@ -15,7 +14,7 @@ use Rattle.taxonomy.proofs.Agreement.{all_in_byte_order}
 use Rattle.taxonomy.proofs.ByteOrder.{by_name_total, by_name_tight}
 use Rattle.taxonomy.proofs.Once.{among_below, among_filter, once_below, once_filter, same_truth}
 use Rattle.taxonomy.proofs.Sizes.{group_by_size, named, strictly_by_size}
-use Rattle.taxonomy.proofs.Sorts.{occ, occ-permutation, only_one, Ascends, Ascends-filter, Ascends-firsts, Ascends-sorted, occ-sorted}
+use Rattle.taxonomy.proofs.Sorts.{occ, only_one, Ascends, Ascends-filter, Ascends-firsts, Ascends-sorted, occ-sorted}
 
 -- ---- how often a number stands in a list
 
@@ -129,7 +128,7 @@ module _ (names : List (List ℕ)) where
 
 -- ---- what stands among the least
 
-among_found : (p : ℕ → Bool) (xs : List ℕ) → list_any p xs ≡ true → (k : ℕ) × (is_among xs k ≡ true) × (p k ≡ true)
+pub among_found : (p : ℕ → Bool) (xs : List ℕ) → list_any p xs ≡ true → (k : ℕ) × (is_among xs k ≡ true) × (p k ≡ true)
 among_found p [] h = absurd (false≢true h)
 among_found p (x ∷ xs) h =
     elim (or_cases (p x) (list_any p xs) h) [
@@ -137,29 +136,13 @@ among_found p (x ∷ xs) h =
       | inr e ↦ let w = among_found p xs e in (w.0, or_right (eqb x w.0) (is_among xs w.0) w.1, w.2)
     ]
 
-any_at : (p : ℕ → Bool) (xs : List ℕ) (k : ℕ) → is_among xs k ≡ true → p k ≡ true → list_any p xs ≡ true
+pub any_at : (p : ℕ → Bool) (xs : List ℕ) (k : ℕ) → is_among xs k ≡ true → p k ≡ true → list_any p xs ≡ true
 any_at p [] k h e = absurd (false≢true h)
 any_at p (x ∷ xs) k h e =
     elim (or_cases (eqb x k) (is_among xs k) h) [
       | inl q ↦ or_left (p x) (list_any p xs) (ap p (eqb-true x k q) ∙ e)
       | inr q ↦ or_right (p x) (list_any p xs) (any_at p xs k q e)
     ]
-
--- the order of the numbers does not matter
-pub any_moved : (p : ℕ → Bool) (xs ys : List ℕ) → IsPermutation xs ys → list_any p ys ≡ list_any p xs
-any_moved p xs ys h =
-    let same : (z : ℕ) → occ z ys ≡ occ z xs = λ z. occ-permutation z xs ys h in
-    same_truth (list_any p ys) (list_any p xs)
-    (λ t.
-    let w = among_found p ys t in
-    let often = same w.0 in
-    let some = among_occ ys w.0 w.1 in
-    any_at p xs w.0 (occ_among xs w.0 (omega (arith, often, some))) w.2)
-    (λ t.
-    let w = among_found p xs t in
-    let often = same w.0 in
-    let some = among_occ xs w.0 w.1 in
-    any_at p ys w.0 (occ_among ys w.0 (omega (arith, often, some))) w.2)
 
 some_at : (n : ℕ) (p : ℕ → Bool) (k : ℕ) → k < n → p k ≡ true → some_below n p ≡ true
 some_at n p k l h = any_at p (numbers_below n) k (among_below n k ∙ lt-ltb k n l) h

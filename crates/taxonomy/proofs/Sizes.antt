@@ -1,9 +1,9 @@
 -- What is strictly above a class has fewer superclasses, and what is above a class that is above another is above that.
-use Rattle.std.proofs.Common.{◌≡◌, ℕ, ◌<◌, ◌≤◌, List, [], ◌∷◌, ◌++◌, length, get_or, Bool, true, false, not, eqb, ltb, ◌&&◌, ◌||◌, take, inl, inr, refl, sym, ap, ap₂, ◌∙◌, ⊎_elim, arith}
+use Rattle.std.proofs.Common.{◌≡◌, ℕ, ◌<◌, ◌≤◌, List, [], ◌∷◌, ◌++◌, length, get_or, Bool, true, false, not, eqb, ltb, ◌&&◌, ◌||◌, take, refl, sym, ap, ap₂, ◌∙◌, ⊎_elim, arith}
 use Rattle.std.specs.List.{filter, list_any}
 use Rattle.std.specs.Prelude.{◌==◌}
 use Rattle.std.proofs.lemmas.List.{take_all}
-use Rattle.std.proofs.lemmas.Bool.{and_from, and_parts, both_ways, cases_Bool, cases_eq, cases_lt, eq-eqb, false_from_ne_true, false≢true, le-ltb, lt-ltb, ne_eqb, not-false, not-true, not_from_false, or_cases, or_left, or_right}
+use Rattle.std.proofs.lemmas.Bool.{and_from, and_parts, both_ways, cases_eq, cases_lt, eq-eqb, false_from_ne_true, false≢true, le-ltb, lt-ltb, ne_eqb, not-false, not-true, not_from_false}
 use Rattle.std.proofs.lemmas.List.Folds.{list_any-append, list_any_none}
 use Rattle.number_sets.specs.Pieces.{list_at}
 use Rattle.taxonomy.specs.Texts.{is_same, is_strictly_above}
@@ -16,10 +16,6 @@ use Rattle.taxonomy.proofs.Told.{at_beyond, length-rows, told}
 pub and_same : (b x y : Bool) → (b ≡ true → x ≡ y) → (b && x) ≡ (b && y)
 and_same true x y h = h refl
 and_same false x y h = refl
-
-or_false : (b : Bool) → b ≡ (b || false)
-or_false true = refl
-or_false false = refl
 
 or_one : (a b : Bool) → (a || (b || false)) ≡ (a || b)
 or_one true b = refl
@@ -44,22 +40,6 @@ marked_by t old now k i items list e l h =
 pub filtered_by : (test : ℕ → ℕ → Bool) (size own i : ℕ) (got items list : List ℕ) → size ≡ own → items ≡ list → length items ≤ i
     → got ≡ filter (λ h. test h size) (take i items) → got ≡ filter (λ h. test h own) list
 filtered_by test size own i got items list es e l h = h ∙ ap₂ (λ n xs. filter (λ h. test h n) xs) es (take_all i items l ∙ e)
-
--- a test of one more adds nothing where another one passes by it
-pub covered : (t p : ℕ → Bool) (q : Bool) (xs : List ℕ) → ((j : ℕ) → t j ≡ true → q ≡ true → p j ≡ true) → list_any t xs ≡ true → list_any p xs ≡ (list_any p xs || q)
-covered t p q xs w h =
-    elim (cases_Bool q) [
-      | inl e ↦ passing xs h e ∙ sym (or_right (list_any p xs) q e)
-      | inr e ↦ or_false (list_any p xs) ∙ ap (λ b. list_any p xs || b) (sym e)
-    ]
-  where
-    passing : (ys : List ℕ) → list_any t ys ≡ true → q ≡ true → list_any p ys ≡ true
-    passing [] h e = h
-    passing (y ∷ ys) h e =
-        elim (or_cases (t y) (list_any t ys) h) [
-          | inl m ↦ or_left (p y) (list_any p ys) (w y m e)
-          | inr m ↦ or_right (p y) (list_any p ys) (passing ys m e)
-        ]
 
 pub named : (lists : List (List ℕ)) (g h : ℕ) → is_listed lists g h ≡ true → g < length lists
 named lists g h b = ⊎_elim (λ l. l) (λ l. absurd (false≢true (sym (ap (λ xs. is_among xs h) (at_beyond lists g l)) ∙ b))) (cases_lt g (length lists))

@@ -1,10 +1,11 @@
 //! Of classes, those that are strictly above no other of them.
 ghost use Rattle.number_sets.specs.Members.{has};
-ghost use Rattle.std.specs.List.{filter};
+ghost use Rattle.number_sets.specs.Pieces.{list_at};
+ghost use Rattle.std.specs.List.{All, Contains, filter};
 ghost use Rattle.std.specs.List.Sorted.{IsPermutation};
-ghost use Rattle.std.specs.Prelude.{◌<◌, ◌||◌, ◌≡◌, IfOk, OnOk, false, length, not, ℕ};
+ghost use Rattle.std.specs.Prelude.{[], ◌<◌, ◌||◌, ◌↔◌, ◌≡◌, ◌≤◌, IfOk, IfSome, IsNone, OnOk, length, not, ℕ};
 ghost use Rattle.taxonomy.specs.Relation.{is_listed};
-ghost use Rattle.taxonomy.specs.ClassMarks.{HasRoom};
+ghost use Rattle.taxonomy.specs.ClassMarks.{AreUpwardClosed, HasRoom};
 ghost use Rattle.taxonomy.specs.Superclasses.{AreSuperclasses, is_larger};
 ghost use Rattle.taxonomy.specs.Texts.{is_above_one};
 
@@ -48,14 +49,13 @@ fn mark(marks: &mut Marks, classes: &Superclasses, c: usize)
     }
 }
 
-/// Marks what is above one of the classes. What is above a marked one is marked already.
+/// Marks what is above one of the classes, too. What is above a marked one is marked already.
 fn mark_each(marks: &mut Marks, classes: &Superclasses, numbers: &[u32])
     requires superclasses { AreSuperclasses classes.now }
     requires room { HasRoom (length classes.now) marks.old }
-    requires empty { (k : ℕ) → has marks.old.above k ≡ false }
-    requires none { (k : ℕ) → has marks.old.strictly k ≡ false }
+    requires closed { AreUpwardClosed classes.now marks.old }
     ensures room { HasRoom (length classes.now) marks.new }
-    ensures strictly { (k : ℕ) → k < length classes.now → has marks.new.strictly k ≡ is_above_one (is_listed classes.now) numbers.now k }
+    ensures strictly { (k : ℕ) → k < length classes.now → has marks.new.strictly k ≡ (has marks.old.strictly k || is_above_one (is_listed classes.now) numbers.now k) }
 {
     for c in numbers {
         let c = *c as usize;
@@ -84,16 +84,33 @@ fn put_missing(
     Ok(())
 }
 
-/// Puts the same numbers in place of those that stand there, those that have most superclasses first: these mark most of the others.
-fn put_largest_first(
+/// Of the numbers one that has most superclasses, or none where there are no numbers.
+fn largest(classes: &Superclasses, numbers: &[u32]) -> Option<u32>
+    ensures none { IsNone result ↔ (numbers.now ≡ []) }
+    ensures among { IfSome result (Contains numbers.now) }
+    ensures most { IfSome result (λ c. All (λ k. length (list_at classes.now k) ≤ length (list_at classes.now c)) numbers.now) }
+{
+    numbers
+        .iter()
+        .copied()
+        .max_by_key(|number| classes.len_at(*number as usize))
+}
+
+/// Puts those of the numbers that are not marked in place of those that stand there, those that have most superclasses first: these mark most of the others.
+fn put_unmarked(
     ordered: &mut Vec<u32>,
+    marked: &EpochSet,
     classes: &Superclasses,
     numbers: &[u32],
 ) -> Result<(), Memory>
-    ensures { OnOk result (IsPermutation numbers.now ordered.new.items) }
+    ensures { OnOk result (IsPermutation (filter (λ c. not (has marked.now c)) numbers.now) ordered.new.items) }
 {
     ordered.clear();
-    ordered.extend_from_slice(numbers)?;
+    for c in numbers {
+        if !marked.contains(*c as usize) {
+            ordered.push(*c)?;
+        }
+    }
     ordered.sort_unstable_by_key(|number| usize::MAX - classes.len_at(*number as usize));
     Ok(())
 }
@@ -114,9 +131,12 @@ pub(crate) fn put_least(
     ensures least { OnOk result
         (found.new.items ≡ filter (has leading.now) (filter (λ g. not (is_above_one (is_listed classes.now) numbers.now g)) numbers.now)) }
 {
-    put_largest_first(ordered, classes, numbers)?;
     marks.above.clear();
     marks.strictly.clear();
+    if let Some(number) = largest(classes, numbers) {
+        mark(marks, classes, number as usize);
+    }
+    put_unmarked(ordered, &marks.above, classes, numbers)?;
     mark_each(marks, classes, ordered);
     put_missing(found, &marks.strictly, leading, numbers)?;
     Ok(())
