@@ -3,8 +3,8 @@ pub mod Axioms
 pub mod Proof
 pub mod Conditions
 pub mod Pairs
-pub mod Classes
 pub mod Refutation
 pub mod Graphs
 pub mod Reached
 pub mod Cited
+pub mod Told

@@ -2,21 +2,23 @@
 ghost use Rattle.answer_texts.specs.Names.{spaced_numbers};
 ghost use Rattle.answer_texts.specs.Reached.{individual_in, reached_text};
 ghost use Rattle.answer_texts.specs.Refutation as text;
+ghost use Rattle.answer_texts.specs.Told.{told_elements};
 ghost use Rattle.axioms.specs.Ontology.{name_at};
 ghost use Rattle.interpretation_spec.specs.NumberedInterpretation.{IsMadeFor};
-ghost use Rattle.std.specs.List.{enumerate_from, flat_map, range_with_len};
-ghost use Rattle.std.specs.Prelude.{◌++◌, ◌-◌, ◌<◌, ◌≡◌, IfOk, OnOk, length};
+ghost use Rattle.number_sets.specs.Members.{has};
+ghost use Rattle.std.specs.List.{enumerate_from, filter, flat_map, range_with_len};
+ghost use Rattle.std.specs.Prelude.{◌++◌, ◌-◌, ◌≡◌, IfOk, OnOk, length, option_map};
 
-use crate::looking::{all_elements, classes_with_elements, element_of, elements_in, is_member};
+use crate::looking::{Told, all_elements, element_of, elements_in, is_member};
 use crate::names::{push_name, push_number};
 use crate::pairs::{PairText, push_properties};
 use axioms::{ClassId, IndId, Memory, Ontology};
-use interpretation_spec::Interpretation;
+use interpretation_spec::{Interpretation, members};
 use number_sets::EpochSet;
 use std::alloc::{AllocError, Global};
 
-// Those of the elements that are in the class.
-fn elements_of(
+// Those of the elements that are in the class, each tested by itself.
+fn tested_elements(
     alloc: Global,
     interpretation: &Interpretation,
     elements: &[usize],
@@ -31,6 +33,56 @@ fn elements_of(
         }
     }
     Ok(members)
+}
+
+// Those of the numbers that the set has.
+fn those_in(alloc: Global, numbers: &[usize], set: &EpochSet) -> Result<Vec<usize>, Memory>
+    ensures { IfOk result (λ v. v.items ≡ filter (has set.now) numbers.now) }
+{
+    let numbers = numbers.iter().copied();
+    Ok(
+        numbers
+            .filter(|number| set.contains(*number))
+            .collect(alloc)?,
+    )
+}
+
+// Those of the elements that are reached, or of all, that are in the class, by the members of its row.
+fn listed_elements(
+    alloc: Global,
+    interpretation: &Interpretation,
+    reached: Option<&EpochSet>,
+    class: ClassId,
+) -> Result<Vec<usize>, Memory>
+    ensures { IfOk result
+        (λ v. v.items
+        ≡ text.elements_of interpretation.now (told_elements interpretation.now (option_map (λ set. set.now) reached.entry)) class.0) }
+{
+    interpretation.well_formed();
+    let Some(row) = interpretation.holders(class) else {
+        return Ok(Vec::new(alloc));
+    };
+    let members = members(alloc, row)?;
+    match reached {
+        Some(set) => those_in(alloc, &members, set),
+        None => Ok(members),
+    }
+}
+
+// Those of the elements that are told of that are in the class. Where these are few beside all, each is tested.
+fn elements_of(
+    alloc: Global,
+    interpretation: &Interpretation,
+    told: Told<'_>,
+    class: ClassId,
+) -> Result<Vec<usize>, Memory>
+    requires { told.elements.now ≡ told_elements interpretation.now (option_map (λ set. set.now) told.reached) }
+    ensures { IfOk result (λ v. v.items ≡ text.elements_of interpretation.now told.entry.elements.now class.0) }
+{
+    if told.elements.len() < interpretation.size() / 64 {
+        return tested_elements(alloc, interpretation, told.elements, class);
+    }
+    listed_elements(alloc, interpretation, told.reached, class)
 }
 
 // Adds the numbers, each behind a space.
@@ -67,16 +119,20 @@ fn push_classes(
     out: &mut Vec<u8>,
     ontology: &Ontology,
     interpretation: &Interpretation,
-    elements: &[usize],
+    told: Told<'_>,
 ) -> Result<(), Memory>
+    requires made { IsMadeFor ontology.now.names interpretation.now }
+    requires told { told.elements.now ≡ told_elements interpretation.now (option_map (λ set. set.now) told.reached) }
     ensures { OnOk result
         (out.new.items
-        ≡ out.old.items ++ flat_map (text.class_text ontology.now.names interpretation.now elements.now) (range_with_len 1 (length ontology.now.names.classes - 1))) }
+        ≡ out.old.items ++ flat_map (text.class_text ontology.now.names interpretation.now told.entry.elements.now) (range_with_len 1 (length ontology.now.names.classes - 1))) }
 {
-    let classes = classes_with_elements(alloc, ontology, interpretation)?;
-    for class in &classes {
-        let members = elements_of(alloc, interpretation, elements, *class)?;
-        push_class(out, ontology, *class, &members)?;
+    ontology.bounded();
+    let classes = interpretation.classes_with_elements(alloc)?;
+    for number in &classes {
+        let class = ClassId(*number as u32);
+        let members = elements_of(alloc, interpretation, told, class)?;
+        push_class(out, ontology, class, &members)?;
     }
     Ok(())
 }
@@ -163,14 +219,16 @@ fn push_rows(
     out: &mut Vec<u8>,
     ontology: &Ontology,
     interpretation: &Interpretation,
-    elements: &[usize],
+    told: Told<'_>,
 ) -> Result<(), Memory>
-    ensures { OnOk result (out.new.items ≡ out.old.items ++ text.rows_text ontology.now.names interpretation.now elements.now) }
+    requires made { IsMadeFor ontology.now.names interpretation.now }
+    requires told { told.elements.now ≡ told_elements interpretation.now (option_map (λ set. set.now) told.reached) }
+    ensures { OnOk result (out.new.items ≡ out.old.items ++ text.rows_text ontology.now.names interpretation.now told.entry.elements.now) }
 {
     push_number(out, b"no\ndomain ", interpretation.size() as u64)?;
     out.extend_from_slice(b"\n")?;
-    push_classes(alloc, out, ontology, interpretation, elements)?;
-    push_properties::<PairLine>(out, ontology, interpretation, elements)?;
+    push_classes(alloc, out, ontology, interpretation, told)?;
+    push_properties::<PairLine>(out, ontology, interpretation, told.elements)?;
     Ok(())
 }
 
@@ -194,7 +252,11 @@ pub(crate) fn push_refutation(
     ensures { OnOk result (out.new.items ≡ out.old.items ++ text.refutation_text ontology.now.names interpretation.now element) }
 {
     let elements = all_elements(alloc, interpretation)?;
-    push_rows(alloc, out, ontology, interpretation, &elements)?;
+    let told = Told {
+        elements: &elements,
+        reached: None,
+    };
+    push_rows(alloc, out, ontology, interpretation, told)?;
     push_individuals(out, ontology, interpretation)?;
     push_element(out, element)?;
     Ok(())
@@ -213,8 +275,12 @@ pub(crate) fn text_of_reached(
 {
     let elements = elements_in(alloc, interpretation, reached)?;
     let others = interpretation.size() - elements.len();
+    let told = Told {
+        elements: &elements,
+        reached: Some(reached),
+    };
     let mut out = Vec::new(alloc);
-    push_rows(alloc, &mut out, ontology, interpretation, &elements)?;
+    push_rows(alloc, &mut out, ontology, interpretation, told)?;
     push_individuals_in(&mut out, ontology, interpretation, reached)?;
     push_element(&mut out, element)?;
     push_number(&mut out, b"others ", others as u64)?;

@@ -3,7 +3,9 @@ ghost use Rattle.std.specs.Prelude.{IfOk};
 ghost use Rattle.interpretation_spec.specs.NumberedInterpretation.{IsMadeFor};
 
 use axioms::{Axiom, BuildFault, Builder, ClassId, ExprId, IndId, Kind, Memory, Ontology, PropId};
-use interpretation_spec::{Interpretation, InterpretationFault, Row, extensions_and_names};
+use interpretation_spec::{
+    Interpretation, InterpretationFault, Row, extensions_and_names, members,
+};
 use std::alloc::Global;
 use std::hash::RandomState;
 use std::process::Abort;
@@ -49,6 +51,14 @@ fn members_of_two_words(rt: HostRuntime) -> Result<(), Fail> {
     assert!(rt; row.count() == 4);
     assert!(rt; !row.contains(1));
     assert!(rt; !row.contains(70));
+    Ok(())
+}
+
+#[test]
+fn members_ascend(rt: HostRuntime) -> Result<(), Fail> {
+    let row = row_of(rt.alloc(), &[64, 0, 69, 63])?;
+    let found = members(rt.alloc(), &row)?;
+    assert!(rt; found.as_slice() == [0, 63, 64, 69].as_slice());
     Ok(())
 }
 
@@ -165,6 +175,15 @@ fn members_of_a_class(rt: HostRuntime) -> Result<(), Fail> {
             .is_some_and(|row| row.contains(1) && row.count() == 1)
     );
     assert!(rt; i.holders(ClassId(3)).is_none());
+    Ok(())
+}
+
+#[test]
+fn a_class_with_an_element(rt: HostRuntime) -> Result<(), Fail> {
+    let mut i = of_names(&rt, 3)?;
+    assert!(rt; i.classes_with_elements(rt.alloc())?.is_empty());
+    assert!(rt; i.put_class(ClassId(2), 1) == Ok(()));
+    assert!(rt; i.classes_with_elements(rt.alloc())?.as_slice() == [2].as_slice());
     Ok(())
 }
 

@@ -96,7 +96,8 @@ fn largest(classes: &Superclasses, numbers: &[u32]) -> Option<u32>
         .max_by_key(|number| classes.len_at(*number as usize))
 }
 
-/// Puts those of the numbers that are not marked in place of those that stand there, those that have most superclasses first: these mark most of the others.
+/// Puts those of the numbers that are not marked in place of those that stand there, those that have most superclasses first: these
+/// mark most of the others.
 fn put_unmarked(
     ordered: &mut Vec<u32>,
     marked: &EpochSet,

@@ -1,8 +1,7 @@
 use Rattle.std.proofs.Common.{◌≡◌, ◌++◌, take}
 use Rattle.std.specs.List.{flat_map}
-use Rattle.axioms.specs.declared.ids.ClassId.{ClassId}
 use Rattle.answer_texts.specs.Refutation as text
 use Rattle.answer_texts.proofs.refutation.push_classes.Given as goal
 
-abbrev pub invariant-loop-class : goal.invariant-loop-class
-invariant-loop-class l = l.out.items ≡ l.fn.out.items ++ flat_map (λ (c : ClassId). text.class_text l.ontology.names l.interpretation l.elements c.0) (take l.class-index l.class-items)
+abbrev pub invariant-loop-number : goal.invariant-loop-number
+invariant-loop-number l = l.out.items ≡ l.fn.out.items ++ flat_map (text.class_text l.ontology.names l.interpretation l.told.elements.now) (take l.number-index l.number-items)
