@@ -1,5 +1,5 @@
 -- From what reading a source answers to the verdict.
-use Rattle.std.proofs.Common.{◌≡◌, ◌++◌, ◌∙◌, ℕ, List, inl, inr}
+use Rattle.std.proofs.Common.{◌++◌, ℕ, List, inl, inr}
 use Rattle.axioms.specs.Ontology.{Ontology}
 use Rattle.axioms.specs.WellFormedness.{IsOntology}
 use Rattle.source_lines.specs.Sources.{SourceState}

@@ -1,5 +1,5 @@
 -- Documents that are read before a run.
-use Rattle.std.proofs.Common.{◌≡◌, ◌<◌, ◌+◌, ◌≤◌, ℕ, List, [], Bool, Option, Some, None, Result, Ok, Err, ap, length, subst}
+use Rattle.std.proofs.Common.{◌<◌, ◌+◌, ◌≤◌, ℕ, List, Bool, Option, Some, None, Result, Ok, Err, ap, length, subst}
 use Rattle.std.specs.Prelude.{IfErr, IfOk, IsErrOf}
 use Rattle.std.specs.Global.{Vec}
 use Rattle.std.specs.Io.KnownBytes.{Keeps}
