@@ -3,7 +3,8 @@ use Rattle.std.specs.Prelude.{slice_index}
 use Rattle.std.proofs.lemmas.List.{length-map}
 use Rattle.std.specs.String.{string_bytes}
 use Rattle.answers.specs.Names.{AreMarkedBelow}
-use Rattle.answers.proofs.MarkWords.{blank, through_words}
+use Rattle.interpretation_spec.proofs.SetWords.{blank}
+use Rattle.answers.proofs.MarkWords.{passes, through_words}
 use Rattle.answers.proofs.names.marked.Goals as goal
 use Rattle.answers.proofs.names.marked.Goals.{then-words-j-ne0+in_ok-push_marked, else-words-j-ne0}
 
@@ -15,7 +16,7 @@ loop-j-preserved c =
     elim c.if-words-j-ne0.branch [
       | then-words-j-ne0+in_ok-push_marked w ↦ rw w.found-is w.in_ok-push_marked.ensures
       | else-words-j-ne0 w ↦ rw w.found-is
-          (subst (λ n. AreMarkedBelow n names c.args.marks.now found) (omega arith) (blank c.args.marks.now names found (64 * j) (slice_index c.words-words.result.now j) (c.words-words.ensures.bits j) w.if-words-j-ne0.false c.loop-j.invariant))
+          (subst (λ n. AreMarkedBelow n names c.args.marks.now found) (omega arith) (blank c.args.marks.now (λ n. AreMarkedBelow n names c.args.marks.now found) (64 * j) (slice_index c.words-words.result.now j) (passes c.args.marks.now names found) (c.words-words.ensures.bits j) w.if-words-j-ne0.false c.loop-j.invariant))
     ]
 
 pub returns : goal.returns
