@@ -9,14 +9,22 @@ use axioms::{Memory, PropId};
 use number_sets::OpenLists;
 use std::alloc::Global;
 
-// The pairs of fewer facts are not cut: a list of them all takes little room, and each range goes over all facts again.
+// So many pairs at a time take little room, and so do those of fewer facts.
 const MANY: usize = 1_000_000;
 
 // So many facts are looked at for where to cut.
 const SAMPLE: usize = 4096;
 
-// The pairs are cut into so many ranges.
+// The pairs are cut into so many ranges at most: each range goes over all facts again.
 const RANGES: usize = 4;
+
+/// How many ranges pairs are cut into of which so many of some facts are known: one for each million, as far as these tell.
+fn ranges_for(pairs: usize, facts: usize) -> usize
+    ensures { (1 ≤ result) × (result ≤ 4) }
+{
+    let each_for = facts / SAMPLE + 1;
+    RANGES.min(pairs.saturating_mul(each_for) / MANY + 1)
+}
 
 /// For each property the numbers of its pairs that every so many facts give, in any order.
 fn some_keys(edges: &Edges<'_>) -> Result<OpenLists<u64>, Memory>
@@ -58,7 +66,7 @@ fn pairs_in(alloc: Global, keys: &OpenLists<u64>) -> Result<Vec<Pair>, Memory>
     Ok(pairs)
 }
 
-/// Pairs between which some as many others stand, as far as some of the facts tell: none where there are few facts.
+/// Pairs between which some as many others stand, as far as some of the facts tell: none where there are few facts, or few pairs.
 pub(crate) fn cuts_of(edges: &Edges<'_>) -> Result<Vec<Pair>, Memory>
     requires distinct { AreDistinct edges.now.elements.now }
     requires few { edges.now.properties ≤ 2 ^ 32 }
@@ -69,8 +77,9 @@ pub(crate) fn cuts_of(edges: &Edges<'_>) -> Result<Vec<Pair>, Memory>
     }
     let keys = some_keys(edges)?;
     let pairs = pairs_in(edges.alloc, &keys)?;
-    for part in 1..RANGES {
-        if let Some(pair) = pairs.get(pairs.len() / RANGES * part) {
+    let ranges = ranges_for(pairs.len(), edges.facts.len());
+    for part in 1..ranges {
+        if let Some(pair) = pairs.get((pairs.len() / ranges).saturating_mul(part)) {
             cuts.push(*pair)?;
         }
     }
