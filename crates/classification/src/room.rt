@@ -59,6 +59,9 @@ fn individual_counts(
     ensures { IfOk result (λ counts. length counts.items ≡ length ontology.now.names.individuals) }
 {
     let mut counts = vec![in alloc; 0u32; ontology.individuals().len()]?;
+    if counts.is_empty() {
+        return Ok(counts);
+    }
     for fact in facts {
         if let Fact::In(Class2::Expr(_), Context::Individual(individual)) = fact.get() {
             count(&mut counts, individual.index());
