@@ -34,6 +34,9 @@ fn type_lists(
     ensures { IfOk result (λ lists. AreTypeLists ontology.now facts.now lists) }
 {
     let mut lists = lists_of_individuals(alloc, ontology, facts)?;
+    if lists.len() == 0 {
+        return Ok(lists.packed(alloc)?);
+    }
     for fact in facts {
         put_into(ontology, &mut lists, fact)?;
     }
