@@ -1,5 +1,5 @@
 //! Lists of classes of which each two have nothing in common.
-ghost use Rattle.std.specs.Prelude.{◌≡◌, ◌<◌, ◌≤◌, ◌++◌, [], ℕ, Some, Contains, IfOk, IfSome, IsNone, OnOk, false, true, length, slice_get};
+ghost use Rattle.std.specs.Prelude.{◌≡◌, ◌<◌, ◌≤◌, ◌++◌, ℕ, Some, Contains, IfOk, IfSome, IsNone, OnOk, false, true, length, slice_get};
 ghost use Rattle.std.specs.List.Sorted.{IsNonDecreasing};
 ghost use Rattle.indexes.specs.declared.disjoint.Operand.{Operand as Operand2};
 ghost use Rattle.indexes.specs.Counts.{AreCountsOf};

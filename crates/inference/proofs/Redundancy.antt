@@ -13,7 +13,7 @@ use Rattle.facts.specs.declared.contexts.Fact.TheVariants.{In, Edge}
 use Rattle.facts.specs.Closure.{Problem, FromTwo, Carries, in_thing, in_itself, by_form, unsatisfiable, loop}
 use Rattle.indexes.specs.Keys.{property_key, by_end}
 use Rattle.inference.specs.Derivations.{Derived, Grows}
-use Rattle.inference.specs.Visits.{NoneNeeds, NoneUnder}
+use Rattle.inference.specs.Visits.{NoneNeedsWhole, NoneUnder}
 use Rattle.inference.specs.Completeness.{AreJoined, Drawn, DrawnUpToRedundancy, AreRedundant, IsGivenBy, IsJoined, IsRedundantAsSecond, IsRedundantFor}
 use Rattle.inference.proofs.Growth.{there_still}
 use Rattle.inference.proofs.Lists.{Contains-from_slice_get}
@@ -96,7 +96,7 @@ pub unneeded_edge : (k : Problem) (d : Derived) (z : Context) (q : PropId2) (v :
 unneeded_edge k d z q v none = redundant k d z q v (λ n r s t at low. absurd (none s low n (N6 r s t, at, refl)))
 
 -- and where a chain gave it of which none needs what it gives
-pub spared_edge : (k : Problem) (d : Derived) (a b : PropId2) (z : Context) (q : PropId2) (v : Context) → IsGivenBy k d (N6 a b q) (Edge z q v) → ((s : PropId2) → IsAtOrBelow k.forms q s → NoneNeeds k.forms a b s) → IsRedundantAsSecond k d (Edge z q v)
+pub spared_edge : (k : Problem) (d : Derived) (a b : PropId2) (z : Context) (q : PropId2) (v : Context) → IsGivenBy k d (N6 a b q) (Edge z q v) → NoneNeedsWhole k.forms a b q → IsRedundantAsSecond k d (Edge z q v)
 spared_edge k d a b z q v given none = redundant k d z q v (λ n r s t at low. record { first = a; second = b; whole = q; given = given; spared = none s low n r t at })
 
 -- ---- what chains join they join where there are more forms

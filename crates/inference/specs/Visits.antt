@@ -14,7 +14,8 @@ use Rattle.facts.specs.Closure.{Problem, Concludes, Gives}
 use Rattle.indexes.specs.Keys.{by_chain, by_denied, by_end, by_filler, by_first, by_restricted, by_second, by_target, class_key, individual_key, property_key}
 use Rattle.indexes.specs.FormsUnderKeys.{IsUnder}
 use Rattle.property_closure.specs.PropertyClosures.{Known, Has}
-use Rattle.inference.specs.Completeness.{AreJoined, IsDrawnFrom}
+use Rattle.inference.specs.Completeness.{AreJoined, IsDrawnFrom, IsGivenBy}
+use Rattle.inference.specs.Derivations.{Derived}
 use Rattle.number_sets.specs.Members.{has}
 use Rattle.normal_forms.specs.declared.forms.Form.TheVariants.{N6}
 
@@ -130,6 +131,14 @@ AreOthersDrawn k older facts = (n : ℕ) (form : Form) (f : Fact) → slice_get 
 abbrev pub NoneNeeds : List Form → PropId2 → PropId2 → PropId2 → Type 0
 NoneNeeds forms a b s = (n : ℕ) (r t : PropId2) → slice_get forms n ≡ Some (N6 r s t) → ∥ AreJoined forms r a b t ∥₁
 
+-- no chain needs what another chain gave, by the whole from edges by a and b, as its second premise
+abbrev pub NoneNeedsWhole : List Form → PropId2 → PropId2 → PropId2 → Type 0
+NoneNeedsWhole forms a b whole = (s : PropId2) → IsAtOrBelow forms whole s → NoneNeeds forms a b s
+
 -- no chain needs what those at the places that the row has give as its second premise
 abbrev pub AreSpared : List Form → List Bool → Type 0
-AreSpared forms row = (n : ℕ) (a b c s : PropId2) → has row n ≡ true → slice_get forms n ≡ Some (N6 a b c) → IsAtOrBelow forms c s → NoneNeeds forms a b s
+AreSpared forms row = (n : ℕ) (a b c : PropId2) → has row n ≡ true → slice_get forms n ≡ Some (N6 a b c) → NoneNeedsWhole forms a b c
+
+-- a chain, whose whole is the property, gave the fact, and no chain needs what it gives as its second premise
+abbrev pub IsGivenBySpared : Problem → Derived → PropId2 → Fact → Type 0
+IsGivenBySpared k d property f = (a b : PropId2) × IsGivenBy k d (N6 a b property) f × NoneNeedsWhole k.forms a b property

@@ -1,6 +1,5 @@
 //! Kinds of facts that are passed over without a look at each fact.
 ghost use Rattle.inference.specs.Kinds.{ArePassedAt, ArePassedMarks, IsPassedMark, Kinds};
-ghost use Rattle.number_sets.specs.Members.{has};
 ghost use Rattle.std.specs.Prelude.{◌≡◌, ◌<◌, ◌≤◌, ℕ, Contains, IfOk, length, true};
 
 use crate::known_facts::IN_CLASS;

@@ -1,5 +1,5 @@
 //! For each property the chains that begin with it or with one above it, listed with what they give.
-ghost use Rattle.std.specs.Prelude.{◌≡◌, ◌↔◌, ℕ, Contains, IfOk, IfSome, IsTrue, List, OnOk, Some, slice_get};
+ghost use Rattle.std.specs.Prelude.{◌≡◌, ◌↔◌, Contains, IfOk, IfSome, IsTrue, List, OnOk, Some, slice_get};
 ghost use Rattle.facts.specs.Closure.{Problem, Concludes, FromTwo};
 ghost use Rattle.facts.specs.declared.contexts.Fact.{Fact as Fact2};
 ghost use Rattle.normal_forms.specs.Properties.{IsAtOrBelow, property_forms};

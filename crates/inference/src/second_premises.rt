@@ -9,8 +9,8 @@ ghost use Rattle.property_closure.specs.PropertyClosures.{Has};
 ghost use Rattle.inference.specs.PropertyClosures.{IsClosureOf};
 ghost use Rattle.inference.specs.Derivations.{IsDerived};
 ghost use Rattle.inference.specs.Joins.{AreJoins};
-ghost use Rattle.inference.specs.Visits.{NoneNeeds, NoneUnder};
-ghost use Rattle.inference.specs.Completeness.{IsGivenBy, IsRedundantAsSecond};
+ghost use Rattle.inference.specs.Visits.{IsGivenBySpared, NoneNeedsWhole, NoneUnder};
+ghost use Rattle.inference.specs.Completeness.{IsRedundantAsSecond};
 
 use crate::joins::Joins;
 use crate::known_facts::KnownFacts;
@@ -38,7 +38,7 @@ fn ends_chain(problem: &IndexedProblem, closure: &PropertyClosure, property: Pro
 /// Whether the form of that number is a chain whose whole is the property, and no chain needs what it gives as its second premise.
 fn spares(problem: &IndexedProblem, joins: &Joins, number: u32, property: PropId2) -> bool
     requires { AreJoins problem.now.forms joins.now }
-    ensures { result ≡ true → (a b : PropId3) × (slice_get problem.now.forms number ≡ Some (the_forms.N6 a b property)) × ((s : PropId3) → IsAtOrBelow problem.now.forms property s → NoneNeeds problem.now.forms a b s) }
+    ensures { result ≡ true → (a b : PropId3) × (slice_get problem.now.forms number ≡ Some (the_forms.N6 a b property)) × NoneNeedsWhole problem.now.forms a b property }
 {
     match problem.form(number) {
         Some(Form::N6(_, _, whole)) => is_same(whole, property) && joins.spares(number),
@@ -57,7 +57,7 @@ fn is_spared(
     requires joins { AreJoins problem.now.forms joins.now }
     requires derived { IsDerived problem.now facts.now }
     requires number { number < length facts.now.facts }
-    ensures { result ≡ true → (f : Fact2) → slice_get facts.now.facts number ≡ Some f → (a b : PropId3) × IsGivenBy problem.now facts.now (the_forms.N6 a b property) f × ((s : PropId3) → IsAtOrBelow problem.now.forms property s → NoneNeeds problem.now.forms a b s) }
+    ensures { result ≡ true → (f : Fact2) → slice_get facts.now.facts number ≡ Some f → IsGivenBySpared problem.now facts.now property f }
 {
     match facts.birth(number).form() {
         Some(form) => spares(problem, joins, form, property),

@@ -7,7 +7,7 @@ ghost use Rattle.normal_forms.specs.Properties.{IsAtOrBelow};
 ghost use Rattle.inference.specs.Completeness.{IsJoined, IsSparedBy};
 ghost use Rattle.property_closure.specs.PropertyClosures.{Has};
 ghost use Rattle.inference.specs.PropertyClosures.{IsClosureOf};
-ghost use Rattle.inference.specs.Visits.{AreSpared, NoneNeeds};
+ghost use Rattle.inference.specs.Visits.{AreSpared, NoneNeedsWhole};
 
 use crate::properties::is_below;
 use axioms::{Memory, PropId};
@@ -129,7 +129,7 @@ fn is_whole_spared(
 ) -> bool
     requires closed { IsClosureOf problem.now.forms closure.now }
     requires has { Has closure.now whole }
-    ensures { result ≡ true → (s : PropId3) → IsAtOrBelow problem.now.forms whole s → NoneNeeds problem.now.forms older.0 older.1 s }
+    ensures { result ≡ true → NoneNeedsWhole problem.now.forms older.0 older.1 whole }
 {
     for above in closure.supers(whole) {
         if !are_spared_by(problem, closure, looks, problem.chains_to(*above), older) {
@@ -147,7 +147,7 @@ fn is_spared(
     number: u32,
 ) -> bool
     requires { IsClosureOf problem.now.forms closure.now }
-    ensures { result ≡ true → (a b c s : PropId3) → slice_get problem.now.forms number ≡ Some (the_forms.N6 a b c) → IsAtOrBelow problem.now.forms c s → NoneNeeds problem.now.forms a b s }
+    ensures { result ≡ true → (a b c : PropId3) → slice_get problem.now.forms number ≡ Some (the_forms.N6 a b c) → NoneNeedsWhole problem.now.forms a b c }
 {
     match problem.form(number) {
         Some(Form::N6(first, second, whole)) => {

@@ -1,5 +1,5 @@
 //! The forms of expressions that occur.
-ghost use Rattle.std.specs.Prelude.{◌≡◌, ◌<◌, OnOk, length};
+ghost use Rattle.std.specs.Prelude.{◌<◌, OnOk, length};
 ghost use Rattle.axioms.specs.Ontology.{And};
 ghost use Rattle.axioms.specs.View.{expr_numbers, node_of};
 ghost use Rattle.axioms.specs.WellFormedness.{AreDistinct};

@@ -1,10 +1,8 @@
 //! Lists of properties that copies share.
 ghost use Rattle.number_sets.specs.Pieces.{list_at};
 ghost use Rattle.property_closure.specs.Growth.{AreRaised, IsUnion};
-ghost use Rattle.normal_forms.specs.Properties.{ComesBefore};
 ghost use Rattle.normal_forms.specs.declared.forms.PropId2.{PropId2};
-ghost use Rattle.std.specs.List.{AllPairs};
-ghost use Rattle.std.specs.Prelude.{◌<◌, ◌↔◌, ◌≡◌, ◌++◌, ◌∷◌, [], Contains, IfOk, IsTrue, List, OnOk, length, slice_set, ℕ};
+ghost use Rattle.std.specs.Prelude.{◌<◌, ◌↔◌, ◌≡◌, ◌++◌, ◌∷◌, [], Contains, IfOk, IsTrue, List, OnOk, length, slice_set};
 
 use axioms::Memory;
 use normal_forms::PropId2;

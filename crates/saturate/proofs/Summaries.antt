@@ -288,10 +288,10 @@ module _ (forms more : List Form) (closure : Known) (joins : Joins) (plain : (fo
 
   -- a chain's whole is a property that the closure has, so no path from it is new, and no chain is
   spared_still : (row : List Bool) → AreSpared forms row → AreSpared (forms ++ more) row
-  spared_still row spared n a b c s has at below m r t there =
+  spared_still row spared n a b c has at s below m r t there =
       let before = chain_before n a b c at in
       let whole : Has closure c = is.has (N6 a b c) (Contains-from_slice_get forms n (N6 a b c) before) c refl in
-      all_joined_still forms more r a b t (spared n a b c s has before (path_before c s (known_is_old c whole) below) m r t (chain_before m r s t there))
+      all_joined_still forms more r a b t (spared n a b c has before s (path_before c s (known_is_old c whole) below) m r t (chain_before m r s t there))
 
   joins_still : AreJoins forms joins → AreJoins (forms ++ more) joins
   joins_still of = record {

@@ -5,7 +5,6 @@ ghost use Rattle.normal_forms.specs.declared.forms.Form.{Form as Form2};
 ghost use Rattle.normal_forms.specs.declared.forms.PropId2.TheVariants as the_properties;
 ghost use Rattle.normal_forms.specs.Properties.{IsAtOrBelow};
 ghost use Rattle.facts.specs.Closure.{thing};
-ghost use Rattle.facts.specs.declared.contexts.Fact.{Fact as Fact2};
 ghost use Rattle.indexes.specs.declared.keys.Key.TheVariants.{Whole};
 ghost use Rattle.indexes.specs.Keys.{by_filler, by_first, by_kind, class_key};
 ghost use Rattle.property_closure.specs.PropertyClosures.{Has};

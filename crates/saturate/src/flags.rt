@@ -1,6 +1,6 @@
 //! Which numbers are flagged.
 ghost use Rattle.saturate.specs.Flags.{AreThoseFlagged, HasOneFlagMore, is_flagged};
-ghost use Rattle.std.specs.Prelude.{◌≡◌, ◌↔◌, ◌<◌, ℕ, IfOk, OnErr, OnOk, false, length, replicate, true};
+ghost use Rattle.std.specs.Prelude.{◌≡◌, ◌<◌, ℕ, IfOk, OnErr, OnOk, false, length, replicate, true};
 
 use axioms::Memory;
 use number_sets::Row;

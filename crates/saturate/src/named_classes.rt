@@ -1,5 +1,4 @@
 //! The classes that forms and lists of disjoint classes name.
-ghost use Rattle.axioms.specs.declared.ids.ExprId.{ExprId as ExprId2};
 ghost use Rattle.normal_forms.specs.declared.forms.Class2.{Class2 as AClass};
 ghost use Rattle.normal_forms.specs.declared.forms.Class2.TheVariants as the_classes;
 ghost use Rattle.saturate.specs.Naming.{ArePut, IsOfList, IsOfLists};

@@ -1,4 +1,4 @@
-use Rattle.std.proofs.Common.{◌≡◌, ℕ, ◌+◌, List, Some, ap, sym, subst, subst₂, take, ◌∙◌}
+use Rattle.std.proofs.Common.{◌+◌, List, Some, ap, sym, subst, subst₂, take, ◌∙◌}
 use Rattle.std.proofs.lemmas.Option.{slice_get-get_or}
 use Rattle.indexes.specs.ListedForms.{AreChangedForms, AreOf}
 use Rattle.indexes.specs.declared.keys.Key.{Key}

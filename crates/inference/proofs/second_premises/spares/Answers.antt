@@ -9,4 +9,4 @@ returns-then-is_same c = λ yes.
     let b = c.in-Some-N6.field-0-1 in
     let p = c.args.property in
     let is : slice_get c.args.problem.now.forms n ≡ Some (N6 a b p) = sym c.form.ensures ∙ c.in-Some-N6.is ∙ ap Some c.in-Some-N6.field-0-is ∙ ap (λ whole. Some (N6 a b whole)) (c.is_same.ensures.0 c.if-is_same.true) in
-    (a, b, is, λ s below. c.requires.spared n a b p s (sym c.spares.ensures ∙ yes) is below)
+    (a, b, is, c.requires.spared n a b p (sym c.spares.ensures ∙ yes) is)

@@ -1,6 +1,5 @@
-use Rattle.std.proofs.Common.{◌≡◌, ◌++◌, ◌-◌, false, length, map, replicate, sym, ap, ◌∙◌, subst}
+use Rattle.std.proofs.Common.{◌≡◌, ◌++◌, ◌-◌, false, length, replicate, sym, ap, ◌∙◌, subst}
 use Rattle.std.proofs.lemmas.List.{length-map}
-use Rattle.axioms.specs.Ontology.{Axiom}
 use Rattle.axioms.specs.View.{axiom_of, expr_numbers}
 use Rattle.normalise.specs.declared.marks.Marked.{Marked}
 use Rattle.normalise.specs.Marks.{AtSide, EachFrom, MarksMore}

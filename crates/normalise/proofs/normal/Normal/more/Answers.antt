@@ -1,4 +1,4 @@
-use Rattle.std.proofs.Common.{◌≡◌, length, sym, ap, ◌∙◌, subst, arith}
+use Rattle.std.proofs.Common.{◌≡◌, length, ap, ◌∙◌, subst, arith}
 use Rattle.axioms.specs.View.{expr_numbers}
 use Rattle.normal_forms.specs.Occurrences.{AtLeft, AtRight}
 use Rattle.normalise.specs.Growth.{AreMarkedAgain}
