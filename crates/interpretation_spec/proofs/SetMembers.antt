@@ -1,5 +1,5 @@
 -- The members of a set below a number, one number further.
-use Rattle.std.proofs.Common.{◌≡◌, ℕ, zero, suc, ◌+◌, ◌-◌, ◌<◌, ◌≤◌, Bool, true, false, cond, List, [], ◌∷◌, ◌++◌, length, refl, sym, ap, ◌∙◌, arith}
+use Rattle.std.proofs.Common.{◌≡◌, ℕ, zero, suc, ◌+◌, ◌-◌, ◌≤◌, Bool, true, false, cond, List, [], ◌∷◌, ◌++◌, length, sym, ap, ◌∙◌, arith}
 use Rattle.std.specs.List.{filter, range_with_len}
 use Rattle.std.proofs.lemmas.List.{append-nil, get_or_past}
 use Rattle.std.proofs.lemmas.List.Elements.{filter-append}
@@ -30,17 +30,3 @@ past set (suc more) =
 
 pub all_below : (set : List Bool) (n : ℕ) → length set ≤ n → members_below set n ≡ members_below set (length set)
 all_below set n low = ap (members_below set) (omega arith) ∙ past set (n - length set)
-
-same_members : (p q : ℕ → Bool) (k n : ℕ) → ((x : ℕ) → k ≤ x → p x ≡ q x) → filter p (range_with_len k n) ≡ filter q (range_with_len k n)
-same_members p q k zero same = refl
-same_members p q k (suc n) same =
-    ap (λ (b : Bool). cond b (k ∷ filter p (range_with_len (k + 1) n)) (filter p (range_with_len (k + 1) n))) (same k (omega arith))
-    ∙ ap (λ (xs : List ℕ). cond (q k) (k ∷ xs) xs) (same_members p q (k + 1) n (λ x low. same x (omega arith)))
-
--- where 0 is no member, and every other number is one where it passes
-pub but_the_first : (set : List Bool) (p : ℕ → Bool) → has set 0 ≡ false → ((x : ℕ) → 0 < x → has set x ≡ p x) → (n : ℕ) → members_below set n ≡ filter p (range_with_len 1 (n - 1))
-but_the_first set p first others zero = refl
-but_the_first set p first others (suc n) =
-    ap (λ (b : Bool). cond b (0 ∷ filter (has set) (range_with_len 1 n)) (filter (has set) (range_with_len 1 n))) first
-    ∙ same_members (has set) p 1 n (λ x low. others x (omega arith))
-    ∙ ap (λ (m : ℕ). filter p (range_with_len 1 m)) (omega arith)

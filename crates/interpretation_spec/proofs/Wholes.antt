@@ -3,7 +3,7 @@ use Rattle.std.proofs.Common.{◌≡◌, ℕ, ◌<◌, zero, suc, Bool, true, fa
 use Rattle.std.proofs.lemmas.Bool.{cases_eq, cases_lt}
 use Rattle.std.proofs.lemmas.List.{get_or-replicate, get_or_past, get_or-set_other, get_or-set_same, length-replicate, length-set}
 use Rattle.std.proofs.lemmas.List.Elements.{All-replicate}
-use Rattle.interpretation_spec.specs.NumberedInterpretation.{NumberedInterpretation, IsNumberedInterpretation, AreElements, members_of, with_member, with_pair, with_number}
+use Rattle.interpretation_spec.specs.NumberedInterpretation.{NumberedInterpretation, IsNumberedInterpretation, AreElements, with_pair, with_number}
 use Rattle.number_sets.specs.Members.{has}
 use Rattle.interpretation_spec.proofs.Ascending.{AreElements-with_number}
 
@@ -35,22 +35,6 @@ IsNumbered-with_pair i r x y lr lx ly h =
       individuals = h.individuals;
     }
 
-pub IsNumbered-with_member : (i : NumberedInterpretation) (c x : ℕ) → 1 < c → c < length i.classes → IsNumberedInterpretation i → IsNumberedInterpretation (with_member i c x)
-IsNumbered-with_member i c x own within h =
-    let row = members_of i c in
-    let new = set row x true in
-    record {
-      inhabited = h.inhabited;
-      classes = λ k l.
-          let low : k < length i.classes = omega (arith, length-set i.classes c new) in
-          get_or-set_cases (λ (xs : List Bool). length xs ≡ i.size) i.classes c k new within (length-set row x true ∙ h.classes c within) (h.classes k low);
-      thing = λ y l. ap (λ (r : List Bool). has r y) (get_or-set_other i.classes c 0 new [] (λ same. absurd (omega (arith, same)))) ∙ h.thing y l;
-      nothing = λ y. ap (λ (r : List Bool). has r y) (get_or-set_other i.classes c 1 new [] (λ same. absurd (omega (arith, same)))) ∙ h.nothing y;
-      sources = h.sources;
-      targets = h.targets;
-      individuals = h.individuals;
-    }
-
 -- ---- at first
 
 -- each of so many
@@ -61,7 +45,7 @@ at_replicate {A} P n k xs one none = elim (cases_lt k n) [
 ]
 
 -- none of a set without members
-pub none_has : (n c : ℕ) → has (replicate n false) c ≡ false
+none_has : (n c : ℕ) → has (replicate n false) c ≡ false
 none_has n c = elim (cases_lt c n) [
   | inl low ↦ get_or-replicate n c false false low
   | inr past ↦ get_or_past (replicate n false) c false (omega (arith, length-replicate n false))

@@ -6,8 +6,7 @@ use Rattle.std.specs.Ordering.{nat_cmp}
 use Rattle.std.specs.BTreeMap.{BTreeMap, get}
 use Rattle.std.specs.Global.{Vec}
 use Rattle.interpretation_spec.specs.declared.interpretation.Interpretation.TheInside.{Inside}
-use Rattle.interpretation_spec.specs.Members.{AreHeld}
-use Rattle.interpretation_spec.specs.NumberedInterpretation.{IsNumberedInterpretation, NumberedInterpretation}
+use Rattle.interpretation_spec.specs.NumberedInterpretation.{NumberedInterpretation}
 
 -- the targets that are kept for a source
 abbrev pub kept_targets : BTreeMap ℕ (Vec ℕ) → ℕ → List ℕ
@@ -20,12 +19,7 @@ kept_pairs size pairs = map (kept_targets pairs) (range_with_len 0 size)
 abbrev pub kept_interpretation : Inside → NumberedInterpretation
 kept_interpretation i = record {
   size = i.size;
-  classes = i.classes.items;
+  classes = i.classes;
   pairs = map (kept_pairs i.size) i.pairs.items;
   individuals = i.individuals.items;
 }
-
--- it is well formed, and which classes have elements is kept beside it
-pub record IsKept (i : Inside) : Type 0 where
-  pub numbered : IsNumberedInterpretation (kept_interpretation i)
-  pub held : AreHeld i.classes.items i.held

@@ -4,9 +4,9 @@ use Rattle.interpretation_spec.specs.declared.fault.InterpretationFault.{Interpr
 use Rattle.interpretation_spec.specs.declared.fault.InterpretationFault.TheVariants as faults
 use Rattle.interpretation_spec.specs.NumberedInterpretation.{NumberedInterpretation}
 
--- that the element is in the class: in range, the class is one of the two that are fixed
+-- that the element is in the class: in range, the class is one of the two that are fixed, or memory was refused
 abbrev pub class_refusal : NumberedInterpretation → ℕ → ℕ → InterpretationFault
-class_refusal i c x = if nat_lt c (length i.classes) && nat_lt x i.size then faults.FixedClass else faults.OutOfDomain
+class_refusal i c x = if nat_lt c (length i.classes) && nat_lt x i.size then (if nat_lt 1 c then faults.Memory else faults.FixedClass) else faults.OutOfDomain
 
 -- that the property joins the two elements: in range, memory was refused
 abbrev pub pair_refusal : NumberedInterpretation → ℕ → ℕ → ℕ → InterpretationFault

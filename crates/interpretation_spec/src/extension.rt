@@ -19,7 +19,7 @@ impl Interpretation {
         ensures { IfOk result (λ row. IsExtension (interpretation_of ontology.now.names self.now) (expression_of ontology.now expression.0) row) }
     {
         match ontology.expr(expression) {
-            Some(Expr::Class(class)) => self.classes[class.0 as usize].copy(self.alloc),
+            Some(Expr::Class(class)) => self.classes.at(class.index()).copy(self.alloc),
             Some(Expr::And(operands)) => {
                 let mut row = Row::full(self.alloc, self.size)?;
                 for operand in operands {

@@ -1,14 +1,14 @@
 //! A finite interpretation of an ontology's names.
-ghost use Rattle.std.specs.Prelude.{◌≡◌, ◌<◌, ◌↔◌, IfOk, IfErr, IsOk, OnOk, if◌then◌else◌, ◌==◌, length, slice_get, option_map, option_and_then, replicate, true, false, ◌∷◌, ◌-◌};
+ghost use Rattle.std.specs.Prelude.{◌≡◌, ◌<◌, ◌↔◌, IfOk, IfErr, IsOk, OnOk, if◌then◌else◌, ◌==◌, length, slice_get, option_map, option_and_then, false, ◌-◌};
 ghost use Rattle.interpretation_spec.specs.declared.fault.InterpretationFault.TheVariants as faults;
 ghost use Rattle.interpretation_spec.specs.Members.{has_elements};
 ghost use Rattle.interpretation_spec.specs.NumberedInterpretation.{IsNumberedInterpretation, empty_interpretation, with_individual, with_member, with_pair};
 ghost use Rattle.std.specs.List.{filter, range_with_len};
 ghost use Rattle.interpretation_spec.specs.Refusals.{class_refusal, pair_refusal};
 
+use crate::class_rows::ClassRows;
 use crate::fault::InterpretationFault;
 use crate::pairs::{put_target, targets_in, without_pairs};
-use crate::set_members::members;
 use axioms::{ClassId, IndId, Memory, Ontology, PropId};
 use number_sets::Row;
 use std::alloc::Global;
@@ -20,12 +20,10 @@ use std::marker::Model;
 pub struct Interpretation {
     pub(crate) alloc: Global,
     pub(crate) size: usize,
-    pub(crate) classes: Vec<Row>,
+    pub(crate) classes: ClassRows,
     // the targets of each source, ascending, by property
     pub(crate) pairs: Vec<BTreeMap<usize, Vec<usize>>>,
     pub(crate) individuals: Vec<usize>,
-    // the classes but `owl:Thing` that have elements
-    pub(crate) held: Row,
 }
 
 // A value is let go by one call, where each way out would else let each field go.
@@ -37,7 +35,6 @@ impl Drop for Interpretation {
             classes: _,
             pairs: _,
             individuals: _,
-            held: _,
         } = self;
     }
 }
@@ -47,11 +44,12 @@ impl Model for Interpretation {
 
     ghost Value = { NumberedInterpretation };
 
-    ghost use Rattle.interpretation_spec.specs.Fields.{IsKept, kept_interpretation};
+    ghost use Rattle.interpretation_spec.specs.NumberedInterpretation.{IsNumberedInterpretation};
+    ghost use Rattle.interpretation_spec.specs.Fields.{kept_interpretation};
 
     ghost view = { kept_interpretation };
 
-    ghost invariant = { IsKept };
+    ghost invariant = { λ i. IsNumberedInterpretation (kept_interpretation i) };
 }
 
 impl Interpretation {
@@ -67,15 +65,14 @@ impl Interpretation {
         if size == 0 {
             return Err(InterpretationFault::EmptyDomain);
         }
-        let classes = empty_classes(alloc, ontology.classes().len(), size)?;
-        let held = Row::new(alloc, classes.len())?;
+        // Owl:Thing is among its classes.
+        ontology.well_formed();
         Ok(Interpretation {
             alloc,
             size,
-            classes,
+            classes: ClassRows::new(alloc, ontology.classes().len(), size)?,
             pairs: without_pairs(alloc, ontology.properties().len())?,
             individuals: vec![in alloc; 0; ontology.individuals().len()]?,
-            held,
         })
     }
 
@@ -99,7 +96,7 @@ impl Interpretation {
     pub fn holders(&self, class: ClassId) -> Option<&Row>
         ensures { option_map (λ row. row.now) result ≡ slice_get self.now.classes class.0 }
     {
-        self.classes.get(class.0 as usize)
+        self.classes.get(class.index())
     }
 
     /// The numbers of the classes but `owl:Thing` that have elements, ascending. No other class is looked at.
@@ -111,7 +108,7 @@ impl Interpretation {
         ensures { IfOk result
             (λ v. v.items ≡ filter (has_elements self.now) (range_with_len 1 (length self.now.classes - 1))) }
     {
-        members(alloc, &self.held)
+        self.classes.with_elements(alloc)
     }
 
     /// The element of the individual. `None` where there is no such individual.
@@ -150,21 +147,20 @@ impl Interpretation {
         Ok(())
     }
 
-    /// The element is in the class.
+    /// The element is in the class. Memory is asked for where the class has no element yet.
     pub fn put_class(&mut self, class: ClassId, element: usize) -> Result<(), InterpretationFault>
-        ensures taken { IsOk result ↔ ((1 < class.0) × (class.0 < length self.old.classes) × (element < self.old.size)) }
+        ensures taken { OnOk result ((1 < class.0) × (class.0 < length self.old.classes) × (element < self.old.size)) }
         ensures after { OnOk result (self.new ≡ with_member self.old class.0 element) }
         ensures refused { IfErr result (λ e. (self.new ≡ self.old) × (e ≡ class_refusal self.old class.0 element)) }
+        ensures asked { IfErr result (λ e. e ≡ faults.Memory → has_elements self.old class.0 ≡ false) }
     {
-        if class.0 as usize >= self.classes.len() || element >= self.size {
+        if class.index() >= self.classes.len() || element >= self.size {
             return Err(InterpretationFault::OutOfDomain);
         }
         if class.0 <= ClassId::NOTHING.0 {
             return Err(InterpretationFault::FixedClass);
         }
-        let row = &mut self.classes[class.0 as usize];
-        row.put(element);
-        self.held.put(class.0 as usize);
+        self.classes.put(self.alloc, class.index(), element)?;
         Ok(())
     }
 
@@ -190,16 +186,4 @@ impl Interpretation {
         )?;
         Ok(())
     }
-}
-
-/// The rows of `count` classes, of which the first is `owl:Thing`.
-fn empty_classes(alloc: Global, count: usize, size: usize) -> Result<Vec<Row>, Memory>
-    ensures { IfOk result (λ rows. rows.items ≡ replicate size true ∷ replicate (count - 1) (replicate size false)) }
-{
-    let mut rows = Vec::with_capacity(alloc, count)?;
-    rows.push(Row::full(alloc, size)?)?;
-    for _ in 1..count {
-        rows.push(Row::new(alloc, size)?)?;
-    }
-    Ok(rows)
 }

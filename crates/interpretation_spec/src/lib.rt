@@ -1,6 +1,7 @@
 //! Finite interpretations of an ontology, and sets of their elements.
 #![tactic(auto)]
 
+mod class_rows;
 mod extension;
 mod fault;
 mod interpretation;

@@ -187,6 +187,46 @@ fn a_class_with_an_element(rt: HostRuntime) -> Result<(), Fail> {
     Ok(())
 }
 
+/// Declares the classes A, of number 2, and B, of number 3.
+fn declare_two_classes(builder: &mut Builder) -> Result<(), BuildFault> {
+    builder.declare(Kind::Class, "x:A")?;
+    builder.declare(Kind::Class, "x:B")
+}
+
+/// Puts 69 into A, and 65 and 2 into B.
+fn put_elements<R: Abort>(rt: &R, i: &mut Interpretation) {
+    for row in [(3, 65), (2, 69), (3, 2)] {
+        let (class, element) = row;
+        assert!(rt; i.put_class(ClassId(class), element) == Ok(()));
+    }
+}
+
+/// How many elements the class has, if there is one.
+fn count_of(i: &Interpretation, class: u32) -> Option<usize> {
+    Some(i.holders(ClassId(class))?.count())
+}
+
+/// What was put into each, and not into the others.
+fn assert_own_elements<R: Abort>(rt: &R, i: &Interpretation) {
+    assert!(rt; i.holders(ClassId(2)).is_some_and(|row| row.contains(69)));
+    assert!(rt; i.holders(ClassId(3)).is_some_and(|row| row.contains(65) && row.contains(2)));
+    assert!(rt; count_of(i, 0) == Some(70));
+    assert!(rt; count_of(i, 1) == Some(0));
+    assert!(rt; count_of(i, 2) == Some(1));
+    assert!(rt; count_of(i, 3) == Some(2));
+}
+
+#[test]
+fn classes_have_their_own_elements(rt: HostRuntime) -> Result<(), Fail> {
+    let mut builder = builder(&rt)?;
+    assert!(rt; declare_two_classes(&mut builder).is_ok());
+    let mut i = interpretation_of(rt.alloc(), builder.finish(), 70)?;
+    put_elements(&rt, &mut i);
+    assert_own_elements(&rt, &i);
+    assert!(rt; i.classes_with_elements(rt.alloc())?.as_slice() == [2, 3].as_slice());
+    Ok(())
+}
+
 /// Joins 1 to 2, to 0 and to 2 again.
 fn put_pairs<R: Abort>(rt: &R, i: &mut Interpretation) {
     for target in [2, 0, 2] {

@@ -14,7 +14,7 @@ loop-element-preserved c =
     let k = c.loop-element.element-index in
     let there = slice_get_same items row.elements.items k 0 c.deref-element-items.ensures.value c.loop-element-test.true in
     let well = went_well c.put_class.result c.is_err.result c.is_err.ensures.negation c.if-is_err.false c.put_class.ensures.after in
-    let taken = c.put_class.ensures.taken.0 well.0 in
+    let taken = (went_well c.put_class.result c.is_err.result c.is_err.ensures.negation c.if-is_err.false c.put_class.ensures.taken).1 in
     member_step o row.class.0 c.in-Some.class.0 c.in-Some.ensures.0 row.elements.items k (get_or items k 0) there
     c.args.interpretation.now c.loop-element.interpretation c.put_class.new.self
     c.well_formed-in-loop-element.ensures taken.1 taken.2 well.1 c.loop-element.invariant

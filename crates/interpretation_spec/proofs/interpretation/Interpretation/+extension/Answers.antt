@@ -1,7 +1,7 @@
-use Rattle.std.proofs.Common.{◌≡◌, ◌<◌, ℕ, List, [], Bool, Some, All, sym, ap, ◌∙◌, subst, length, arith}
+use Rattle.std.proofs.Common.{◌≡◌, ◌<◌, ℕ, List, [], Bool, Some, All, sym, ap, ◌∙◌, subst, get_or, length, arith}
 use Rattle.std.specs.List.{list_any}
 use Rattle.std.proofs.lemmas.Bool.{and_parts, and_from}
-use Rattle.std.proofs.lemmas.List.{get_or_default, take_all}
+use Rattle.std.proofs.lemmas.List.{take_all}
 use Rattle.std.proofs.lemmas.List.Elements.{All-more, All-map}
 use Rattle.std.proofs.lemmas.Option.{none-some}
 use Rattle.std.proofs.lemmas.Result.{IfOk-weaker}
@@ -84,6 +84,13 @@ unreachable-requires t c =
     let (node, g) = slice_get_there c.args.ontology.now.nodes c.args.expression.0 c.requires.there in
     none-some node (c.in-None.ensures.node ∙ g)
 
+pub at-requires : goal.at-requires
+at-requires t c =
+    let w = c.in-Some-Class.ensures.valid in
+    let g = sym c.in-Some-Class.ensures.node ∙ ap (λ e. Some (node_of e)) c.in-Some-Class.field-0-is in
+    let l = w.nodes c.args.expression.0 (Class c.in-Some-Class.class.0) g in
+    omega (arith, l, c.requires.made_for.classes, ap (λ (i : NumberedInterpretation). length i.classes) c.self.view_is)
+
 pub returns-in-Some-Class : goal.returns-in-Some-Class
 returns-in-Some-Class t c =
     let o = c.args.ontology.now in
@@ -93,11 +100,9 @@ returns-in-Some-Class t c =
     let k = c.in-Some-Class.class.0 in
     let w = c.in-Some-Class.ensures.valid in
     let g = sym c.in-Some-Class.ensures.node ∙ ap (λ e. Some (node_of e)) c.in-Some-Class.field-0-is in
-    let l = w.nodes e (Class k) g in
-    let within : k < length c.self.inside.classes.items = omega (arith, l, c.requires.made_for.classes, ap (λ (i : NumberedInterpretation). length i.classes) c.self.view_is) in
-    let whole = subst IsNumberedInterpretation c.self.view_is c.self.invariant.numbered in
-    let read = c.index.ensures ∙ get_or_default c.self.inside.classes.items k c.index.result.now [] within ∙ ap (λ (i : NumberedInterpretation). members_of i k) c.self.view_is in
-    IfOk-weaker c.copy.result (λ (row : List Bool). row ≡ c.index.result.now) (IsExtension i (expression o e))
+    let whole = subst IsNumberedInterpretation c.self.view_is c.self.invariant in
+    let read = c.at.ensures ∙ ap (λ (n : ℕ). get_or c.self.inside.classes n []) c.index.ensures ∙ ap (λ (i : NumberedInterpretation). members_of i k) c.self.view_is in
+    IfOk-weaker c.copy.result (λ (row : List Bool). row ≡ c.at.result.now) (IsExtension i (expression o e))
     (λ row h. subst (IsExtension i (expression o e)) (sym (h ∙ read)) (class_elements o w n whole c.requires.made_for e k g))
     c.copy.ensures
 
@@ -109,7 +114,7 @@ returns-after-loop-operand t c =
     let e = c.args.expression.0 in
     let operands = c.in-Some-And.operands.items in
     let g = sym c.in-Some-And.ensures.node ∙ ap (λ e. Some (node_of e)) c.in-Some-And.field-0-is in
-    let whole = subst IsNumberedInterpretation c.self.view_is c.self.invariant.numbered in
+    let whole = subst IsNumberedInterpretation c.self.view_is c.self.invariant in
     let read = take_all c.loop-operand.operand-index c.deref-operand-items.result.now c.loop-operand-test.false ∙ c.deref-operand-items.ensures.value in
     and_elements o c.in-Some-And.ensures.valid n whole c.requires.made_for e (expr_numbers operands) g c.loop-operand.row c.loop-operand.invariant.long
     (λ x l.
@@ -130,7 +135,7 @@ returns-in_ok-fillers-in-Some-Some t c =
     let d = c.in-Some-Some.filler.0 in
     let fillers = c.in_ok-fillers-in-Some-Some.fillers in
     let g = sym c.in-Some-Some.ensures.node ∙ ap (λ e. Some (node_of e)) c.in-Some-Some.field-0-is in
-    let whole = subst IsNumberedInterpretation c.self.view_is c.self.invariant.numbered in
+    let whole = subst IsNumberedInterpretation c.self.view_is c.self.invariant in
     let Long : List Bool → Type 0 = λ (row : List Bool). length row ≡ n.size in
     let Members : List Bool → Type 0 = λ (row : List Bool). (x : ℕ) → x < n.size → has row x ≡ list_any (has fillers) (targets_of n r x) in
     IfOk-weaker c.sources.result (λ (row : List Bool). Long row × Members row) (IsExtension i (expression o e))

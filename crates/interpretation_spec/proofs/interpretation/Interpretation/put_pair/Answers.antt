@@ -15,7 +15,7 @@ put_target-requires c =
     let p = c.args.property.0 in
     let old = c.index_mut.result.now in
     let is = targets size all p old old (omega arith) c.index_mut.ensures.value c.args.source (omega arith) in
-    (subst (AreElements size) is (c.self.invariant.numbered.targets p c.args.source)).ascending
+    (subst (AreElements size) is (c.self.invariant.targets p c.args.source)).ascending
 
 pub invariant_of-self : goal.invariant_of-self
 invariant_of-self c =
@@ -24,10 +24,7 @@ invariant_of-self c =
     let all = c.self.inside.pairs.items in
     let p = c.args.property.0 in
     let same = same_view size all p c.index_mut.result.now c.put_target.new.pairs (omega arith) c.index_mut.ensures.value c.in_err-put_target.ensures.same in
-    record {
-      numbered = subst (λ (pairs : List (List (List ℕ))). IsNumberedInterpretation (record i { pairs = pairs })) (sym same) c.self.invariant.numbered;
-      held = c.self.invariant.held;
-    }
+    subst (λ (pairs : List (List (List ℕ))). IsNumberedInterpretation (record i { pairs = pairs })) (sym same) c.self.invariant
 
 pub invariant_of-self-2 : goal.invariant_of-self-2
 invariant_of-self-2 c =
@@ -38,11 +35,8 @@ invariant_of-self-2 c =
     let s = c.args.source in
     let t = c.args.target in
     let more = more_view size all p c.index_mut.result.now c.put_target.new.pairs (omega arith) c.index_mut.ensures.value s t (omega arith) c.in_ok-put_target.ensures.after in
-    record {
-      numbered = subst (λ (pairs : List (List (List ℕ))). IsNumberedInterpretation (record i { pairs = pairs })) (sym more)
-          (IsNumbered-with_pair i p s t (omega (arith, length-map all (kept_pairs size))) (omega arith) (omega arith) c.self.invariant.numbered);
-      held = c.self.invariant.held;
-    }
+    subst (λ (pairs : List (List (List ℕ))). IsNumberedInterpretation (record i { pairs = pairs })) (sym more)
+    (IsNumbered-with_pair i p s t (omega (arith, length-map all (kept_pairs size))) (omega arith) (omega arith) c.self.invariant)
 
 pub returns-clause-after : goal.returns-clause-after
 returns-clause-after c =
