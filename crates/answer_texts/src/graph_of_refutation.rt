@@ -8,7 +8,7 @@ ghost use Rattle.std.specs.Prelude.{◌++◌, ◌-◌, ◌≡◌, IfOk, OnOk, le
 ghost use Rattle.std.specs.String.{string_bytes};
 
 use crate::graph_of_proof::push_escaped;
-use crate::looking::{all_elements, element_of, elements_in, is_member};
+use crate::looking::{all_elements, elements_in};
 use crate::names::{name_of, push_number};
 use crate::pairs::{PairText, push_properties};
 use axioms::{ClassId, IndId, Memory, Ontology};
@@ -35,7 +35,7 @@ fn push_class(
 ) -> Result<(), AllocError>
     ensures { OnOk result (out.new.items ≡ out.old.items ++ graphs.class_line ontology.now.names interpretation.now element class.0) }
 {
-    if !is_member(interpretation, class, element) {
+    if !interpretation.is_member(class, element) {
         return Ok(());
     }
     out.extend_from_slice(b"\\n")?;
@@ -98,7 +98,7 @@ fn push_individuals(
 {
     ontology.bounded();
     for number in 0..ontology.individuals().len() {
-        let own = element_of(interpretation, IndId(number as u32));
+        let own = interpretation.element_at(IndId(number as u32));
         push_individual(out, ontology, element, number, own)?;
     }
     Ok(())

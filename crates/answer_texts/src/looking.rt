@@ -1,11 +1,9 @@
-//! What an interpretation says, by numbers.
+//! Which elements of an interpretation a text tells of.
 ghost use Rattle.answer_texts.specs.Pairs.{all_elements as all};
 ghost use Rattle.answer_texts.specs.Reached.{elements_in as in_set};
-ghost use Rattle.interpretation_spec.specs.NumberedInterpretation.{members_of, targets_of};
-ghost use Rattle.number_sets.specs.Members.{has};
-ghost use Rattle.std.specs.Prelude.{◌≡◌, ◌≤◌, IfOk, length, slice_index};
+ghost use Rattle.std.specs.Prelude.{◌≡◌, ◌≤◌, IfOk, length};
 
-use axioms::{ClassId, IndId, Memory, PropId};
+use axioms::Memory;
 use interpretation_spec::Interpretation;
 use number_sets::EpochSet;
 use std::alloc::Global;
@@ -47,37 +45,4 @@ pub(crate) fn elements_in(
         }
     }
     Ok(elements)
-}
-
-pub(crate) fn is_member(interpretation: &Interpretation, class: ClassId, element: usize) -> bool
-    ensures { result ≡ has (members_of interpretation.now class.0) element }
-{
-    match interpretation.holders(class) {
-        Some(row) => row.contains(element),
-        None => false,
-    }
-}
-
-/// The elements that the property joins the element to.
-pub(crate) fn targets_of(
-    interpretation: &Interpretation,
-    property: PropId,
-    source: usize,
-) -> &[usize]
-    ensures { result.now ≡ targets_of interpretation.now property.0 source }
-{
-    match interpretation.targets(property, source) {
-        Some(targets) => targets,
-        None => &[],
-    }
-}
-
-/// The element of the individual, or the first where there is none.
-pub(crate) fn element_of(interpretation: &Interpretation, individual: IndId) -> usize
-    ensures { result ≡ slice_index interpretation.now.individuals individual.0 }
-{
-    match interpretation.element(individual) {
-        Some(element) => element,
-        None => 0,
-    }
 }

@@ -5,7 +5,6 @@ ghost use Rattle.std.specs.List.{flat_map};
 ghost use Rattle.std.specs.Prelude.{◌++◌, ◌≡◌, List, OnOk, map, ℕ};
 ghost use Rattle.std.specs.String.{string_bytes};
 
-use crate::looking::targets_of;
 use axioms::{Ontology, PropId};
 use interpretation_spec::Interpretation;
 use std::alloc::AllocError;
@@ -53,7 +52,7 @@ fn push_property<P: PairText>(
     ensures { OnOk result (out.new.items ≡ out.old.items ++ property_pairs P.pair ontology.now.names interpretation.now elements.now property.0) }
 {
     for source in elements {
-        let targets = targets_of(interpretation, property, *source);
+        let targets = interpretation.targets_at(property, *source);
         push_targets::<P>(
             out,
             ontology.properties(),

@@ -5,7 +5,6 @@ ghost use Rattle.number_sets.specs.Members.{has};
 ghost use Rattle.number_sets.specs.Search.{search_of, with_number, with_starts};
 ghost use Rattle.std.specs.Prelude.{◌<◌, ◌↔◌, ◌≡◌, ◌^◌, ◌≤◌, IfOk, OnOk, true, ℕ};
 
-use crate::looking::targets_of;
 use axioms::{Memory, Ontology, PropId};
 use interpretation_spec::Interpretation;
 use number_sets::{EpochSet, NumberSearch};
@@ -45,7 +44,7 @@ fn follow(
 {
     for number in 0..properties {
         let property = PropId(number as u32);
-        add_all(search, targets_of(interpretation, property, element))?;
+        add_all(search, interpretation.targets_at(property, element))?;
     }
     Ok(())
 }

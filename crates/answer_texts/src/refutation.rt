@@ -9,7 +9,7 @@ ghost use Rattle.number_sets.specs.Members.{has};
 ghost use Rattle.std.specs.List.{enumerate_from, filter, flat_map, range_with_len};
 ghost use Rattle.std.specs.Prelude.{◌++◌, ◌-◌, ◌≡◌, IfOk, OnOk, length, option_map};
 
-use crate::looking::{Told, all_elements, element_of, elements_in, is_member};
+use crate::looking::{Told, all_elements, elements_in};
 use crate::names::{push_name, push_number};
 use crate::pairs::{PairText, push_properties};
 use axioms::{ClassId, IndId, Memory, Ontology};
@@ -28,7 +28,7 @@ fn tested_elements(
 {
     let mut members = Vec::new(alloc);
     for element in elements {
-        if is_member(interpretation, class, *element) {
+        if interpretation.is_member(class, *element) {
             members.push(*element)?;
         }
     }
@@ -185,7 +185,7 @@ fn push_individuals(
 {
     ontology.bounded();
     for number in 0..ontology.individuals().len() {
-        let element = element_of(interpretation, IndId(number as u32));
+        let element = interpretation.element_at(IndId(number as u32));
         push_individual(out, ontology, number, element)?;
     }
     Ok(())
@@ -205,7 +205,7 @@ fn push_individuals_in(
 {
     ontology.bounded();
     for number in 0..ontology.individuals().len() {
-        let element = element_of(interpretation, IndId(number as u32));
+        let element = interpretation.element_at(IndId(number as u32));
         if reached.contains(element) {
             push_individual(out, ontology, number, element)?;
         }

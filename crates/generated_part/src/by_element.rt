@@ -1,9 +1,8 @@
 //! Interpretations by their elements.
 ghost use Rattle.generated_part.specs.Elements.{AddsTargets, AreClassesAt, ArePairsAt, IsByElement};
 ghost use Rattle.interpretation_spec.specs.NamedInterpretation.{interpretation_of};
-ghost use Rattle.interpretation_spec.specs.NumberedInterpretation.{IsMadeFor, members_of, targets_of as targets_by};
-ghost use Rattle.number_sets.specs.Members.{has};
-ghost use Rattle.std.specs.Prelude.{◌<◌, ◌≡◌, ◌≤◌, ◌^◌, IfOk, OnOk, length, slice_index};
+ghost use Rattle.interpretation_spec.specs.NumberedInterpretation.{IsMadeFor};
+ghost use Rattle.std.specs.Prelude.{◌<◌, ◌≡◌, ◌≤◌, ◌^◌, IfOk, OnOk, length};
 
 use axioms::{ClassId, IndId, Memory, Ontology, PropId};
 use interpretation_spec::Interpretation;
@@ -20,35 +19,6 @@ pub(crate) struct ByElement {
     pub individuals: Vec<usize>,
 }
 
-fn is_member(interpretation: &Interpretation, class: ClassId, element: usize) -> bool
-    ensures { result ≡ has (members_of interpretation.now class.0) element }
-{
-    match interpretation.holders(class) {
-        Some(row) => row.contains(element),
-        None => false,
-    }
-}
-
-/// The elements that the property joins the element to.
-fn targets_of(interpretation: &Interpretation, property: PropId, element: usize) -> &[usize]
-    ensures { result.now ≡ targets_by interpretation.now property.0 element }
-{
-    match interpretation.targets(property, element) {
-        Some(targets) => targets,
-        None => &[],
-    }
-}
-
-/// The element of the individual, or the first where there is none.
-fn element_of(interpretation: &Interpretation, individual: IndId) -> usize
-    ensures { result ≡ slice_index interpretation.now.individuals individual.0 }
-{
-    match interpretation.element(individual) {
-        Some(element) => element,
-        None => 0,
-    }
-}
-
 /// The classes of the element among so many, but for `owl:Thing`.
 fn classes_at(
     alloc: Global,
@@ -63,7 +33,7 @@ fn classes_at(
     let mut found = Vec::new(alloc);
     for number in 2..classes {
         let class = ClassId(number as u32);
-        if is_member(interpretation, class, element) {
+        if interpretation.is_member(class, element) {
             found.push(class)?;
         }
     }
@@ -100,7 +70,7 @@ fn pairs_at(
         push_targets(
             &mut found,
             property,
-            targets_of(interpretation, property, element),
+            interpretation.targets_at(property, element),
         )?;
     }
     Ok(found)
@@ -118,7 +88,7 @@ fn individual_elements(
 {
     let mut elements = Vec::new(alloc);
     for number in 0..individuals {
-        elements.push(element_of(interpretation, IndId(number as u32)))?;
+        elements.push(interpretation.element_at(IndId(number as u32)))?;
     }
     Ok(elements)
 }

@@ -107,7 +107,7 @@ module _ (rows : List (List Bool)) (places : List ℕ) (was : ArePlaced rows pla
   has_none c l is = ap has_some (row_at c l ∙ ap (λ (p : ℕ). get_or rows p []) is) ∙ was.common
 
   pub has_one : (c : ℕ) → 0 < c → c < length places → place c ≢ 0 → has_some (get_or (rows_at rows places) c []) ≡ true
-  has_one c some l not = ap has_some (row_at c l) ∙ was.used c some (elim (cases_lt 0 (place c)) [ | inl used ↦ used | inr none ↦ absurd (not (omega arith)) ])
+  has_one c some l not = ap has_some (row_at c l) ∙ was.used c some (elim (cases_lt 0 (place c)) [ inl used ↦ used | inr none ↦ absurd (not (omega arith)) ])
 
   module _ (c : ℕ) (some : 0 < c) (within : c < length places) where
     -- a row of its own, behind the others
@@ -139,13 +139,13 @@ module _ (rows : List (List Bool)) (places : List ℕ) (was : ArePlaced rows pla
       longer_own : (d e : ℕ) → 0 < get_or moved d 0 → get_or moved d 0 ≡ get_or moved e 0 → d ≡ e
       longer_own d e l same = elim (cases_eq d c) [
         | inl dc ↦ elim (cases_eq e c) [
-            | inl ec ↦ dc ∙ sym ec
-            | inr ne ↦ let before = was.there e in absurd (omega (arith, before, others e ne, here, same, ap (λ (k : ℕ). get_or moved k 0) dc))
-          ]
+          | inl ec ↦ dc ∙ sym ec
+          | inr ne ↦ let before = was.there e in absurd (omega (arith, before, others e ne, here, same, ap (λ (k : ℕ). get_or moved k 0) dc))
+        ]
         | inr nd ↦ elim (cases_eq e c) [
-            | inl ec ↦ let before = was.there d in absurd (omega (arith, before, others d nd, here, same, ap (λ (k : ℕ). get_or moved k 0) ec))
-            | inr ne ↦ was.own d e (omega (arith, l, others d nd)) (sym (others d nd) ∙ same ∙ others e ne)
-          ]
+          | inl ec ↦ let before = was.there d in absurd (omega (arith, before, others d nd, here, same, ap (λ (k : ℕ). get_or moved k 0) ec))
+          | inr ne ↦ was.own d e (omega (arith, l, others d nd)) (sym (others d nd) ∙ same ∙ others e ne)
+        ]
       ]
 
       longer_used : (d : ℕ) → 0 < d → 0 < get_or moved d 0 → has_some (get_or longer (get_or moved d 0) []) ≡ true

@@ -2,7 +2,8 @@
 ghost use Rattle.std.specs.Prelude.{◌≡◌, ◌<◌, ◌↔◌, IfOk, IfErr, IsOk, OnOk, if◌then◌else◌, ◌==◌, length, slice_get, option_map, option_and_then, false, ◌-◌};
 ghost use Rattle.interpretation_spec.specs.declared.fault.InterpretationFault.TheVariants as faults;
 ghost use Rattle.interpretation_spec.specs.Members.{has_elements};
-ghost use Rattle.interpretation_spec.specs.NumberedInterpretation.{IsNumberedInterpretation, empty_interpretation, with_individual, with_member, with_pair};
+ghost use Rattle.interpretation_spec.specs.NumberedInterpretation.{IsNumberedInterpretation, element_of, empty_interpretation, members_of, targets_of, with_individual, with_member, with_pair};
+ghost use Rattle.number_sets.specs.Members.{has};
 ghost use Rattle.std.specs.List.{filter, range_with_len};
 ghost use Rattle.interpretation_spec.specs.Refusals.{class_refusal, pair_refusal};
 
@@ -116,6 +117,37 @@ impl Interpretation {
         ensures { result ≡ slice_get self.now.individuals individual.0 }
     {
         self.individuals.get(individual.0 as usize).copied()
+    }
+
+    /// Whether the element is in the class: not where there is no such class or element.
+    pub fn is_member(&self, class: ClassId, element: usize) -> bool
+        ensures { result ≡ has (members_of self.now class.0) element }
+    {
+        match self.holders(class) {
+            Some(row) => row.contains(element),
+            None => false,
+        }
+    }
+
+    /// The element of the individual, and the first one where there is no such individual.
+    pub fn element_at(&self, individual: IndId) -> usize
+        ensures value { result ≡ element_of self.now individual.0 }
+        ensures inside { result < self.now.size }
+    {
+        match self.individuals.get(individual.index()) {
+            Some(element) => *element,
+            None => 0,
+        }
+    }
+
+    /// The elements that the property joins `source` to, ascending: none where there is no such property or element.
+    pub fn targets_at(&self, property: PropId, source: usize) -> &[usize]
+        ensures { result.now ≡ targets_of self.now property.0 source }
+    {
+        match self.targets(property, source) {
+            Some(targets) => targets,
+            None => &[],
+        }
     }
 
     /// The elements that the property joins `source` to, ascending. `None` where there is no such property or element.

@@ -5,11 +5,11 @@ ghost use Rattle.axioms.specs.View.{axiom_of, expr_numbers, ind_numbers, prop_nu
 ghost use Rattle.axioms.specs.WellFormedness.{IsAxiomOf};
 ghost use Rattle.interpretation_spec.specs.NamedInterpretation.{HasNumberedPath, IsFirstUnsatisfied, IsNumberedSubProperty, IsTargetOfSome, SatisfiesNumbered, interpretation_of, is_target};
 ghost use Rattle.interpretation_spec.specs.Interpretation.{IsModel};
-ghost use Rattle.interpretation_spec.specs.NumberedInterpretation.{HaveOneElement, HaveSameTargets, HaveTwoElements, IsMadeFor, element_of, targets_of};
+ghost use Rattle.interpretation_spec.specs.NumberedInterpretation.{HaveOneElement, HaveSameTargets, HaveTwoElements, IsMadeFor, element_of};
 ghost use Rattle.number_sets.specs.Members.{has};
 
 use crate::interpretation::Interpretation;
-use crate::pairs::{put_targets, targets_in};
+use crate::pairs::put_targets;
 use axioms::{Axiom, ExprId, IndId, Memory, Ontology, PropId};
 use number_sets::Row;
 
@@ -263,23 +263,5 @@ impl Interpretation {
             }
         }
         Ok(successors)
-    }
-
-    /// The element of the individual.
-    fn element_at(&self, individual: IndId) -> usize
-        requires { individual.0 < length self.now.individuals }
-        ensures value { result ≡ element_of self.now individual.0 }
-        ensures inside { result < self.now.size }
-    {
-        self.individuals[individual.0 as usize]
-    }
-
-    /// The elements that the property joins the element to.
-    fn targets_at(&self, property: PropId, element: usize) -> &[usize]
-        requires property_there { property.0 < length self.now.pairs }
-        requires element_there { element < self.now.size }
-        ensures { result.now ≡ targets_of self.now property.0 element }
-    {
-        targets_in(&self.pairs[property.0 as usize], element)
     }
 }

@@ -209,7 +209,10 @@ fn count_of(i: &Interpretation, class: u32) -> Option<usize> {
 /// What was put into each, and not into the others.
 fn assert_own_elements<R: Abort>(rt: &R, i: &Interpretation) {
     assert!(rt; i.holders(ClassId(2)).is_some_and(|row| row.contains(69)));
-    assert!(rt; i.holders(ClassId(3)).is_some_and(|row| row.contains(65) && row.contains(2)));
+    assert!(rt;
+        i.holders(ClassId(3))
+            .is_some_and(|row| row.contains(65) && row.contains(2))
+    );
     assert!(rt; count_of(i, 0) == Some(70));
     assert!(rt; count_of(i, 1) == Some(0));
     assert!(rt; count_of(i, 2) == Some(1));
@@ -224,6 +227,28 @@ fn classes_have_their_own_elements(rt: HostRuntime) -> Result<(), Fail> {
     put_elements(&rt, &mut i);
     assert_own_elements(&rt, &i);
     assert!(rt; i.classes_with_elements(rt.alloc())?.as_slice() == [2, 3].as_slice());
+    Ok(())
+}
+
+/// What is said of a class, an individual and a property, and of what is not there.
+fn assert_looked_up<R: Abort>(rt: &R, i: &Interpretation) {
+    assert!(rt; i.is_member(ClassId(2), 1));
+    assert!(rt; !i.is_member(ClassId(2), 0));
+    assert!(rt; !i.is_member(ClassId(3), 1));
+    assert!(rt; i.element_at(IndId(0)) == 2);
+    assert!(rt; i.element_at(IndId(1)) == 0);
+    assert!(rt; i.targets_at(PropId(0), 1) == [2].as_slice());
+    assert!(rt; i.targets_at(PropId(0), 2).is_empty());
+    assert!(rt; i.targets_at(PropId(1), 1).is_empty());
+}
+
+#[test]
+fn what_is_looked_up(rt: HostRuntime) -> Result<(), Fail> {
+    let mut i = of_names(&rt, 3)?;
+    assert!(rt; i.put_class(ClassId(2), 1) == Ok(()));
+    assert!(rt; i.put_individual(IndId(0), 2) == Ok(()));
+    assert!(rt; i.put_pair(PropId(0), 1, 2) == Ok(()));
+    assert_looked_up(&rt, &i);
     Ok(())
 }
 

@@ -14,12 +14,12 @@ loop-number-preserved c =
     let n = c.loop-number.number in
     let xs = c.args.interpretation.now.individuals in
     let out = c.loop-number.out.items in
-    let x = c.element_of-element.result in
+    let x = c.element_at-element.result in
     let line : Bool → List ℕ = λ b. out ++ (if b then individual_text names (n, x) else []) in
     let low : n < length xs = omega (arith, c.requires.individuals, c.loop-number-test.true, c.individuals-number-end.ensures.count) in
     let told : c.if-contains.out.items ≡ out ++ f (n, x) = elim c.if-contains.branch [
       | then-contains+in_ok-push_individual w ↦ ap (λ (v : Vec ℕ). v.items) w.out-is ∙ w.in_ok-push_individual.ensures ∙ ap line (sym (sym c.contains.ensures ∙ w.if-contains.true))
       | else-contains w ↦ ap (λ (v : Vec ℕ). v.items) w.out-is ∙ sym (append-nil out) ∙ ap line (sym (sym c.contains.ensures ∙ w.if-contains.false))
     ] in
-    let step : c.if-contains.out.items ≡ out ++ f (n, get_or xs n 0) = told ∙ ap (λ (y : ℕ). out ++ f (n, y)) c.element_of-element.ensures in
+    let step : c.if-contains.out.items ≡ out ++ f (n, get_or xs n 0) = told ∙ ap (λ (y : ℕ). out ++ f (n, y)) c.element_at-element.ensures.value in
     added c.args.out.now.items out c.if-contains.out.items _ (f (n, get_or xs n 0)) _ c.loop-number.invariant step (enumerated_more f 0 xs n n 0 low (omega arith))

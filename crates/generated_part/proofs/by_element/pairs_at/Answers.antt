@@ -8,7 +8,7 @@ loop-number-preserved c =
     let old = c.loop-number.found.items in
     let now = c.push_targets.new.found.items in
     one_property c.args.interpretation.now c.loop-number.number c.args.element old now c.loop-number.invariant
-    (subst (λ (ts : List ℕ). AddsTargets old (prop_id c.loop-number.number) ts now) c.targets_of.ensures c.in_ok-push_targets.ensures)
+    (subst (λ (ts : List ℕ). AddsTargets old (prop_id c.loop-number.number) ts now) c.targets_at.ensures c.in_ok-push_targets.ensures)
 
 pub returns : goal.returns
 returns c =

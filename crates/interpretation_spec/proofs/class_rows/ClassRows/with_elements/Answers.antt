@@ -18,12 +18,15 @@ loop-class-preserved c =
     let some : 0 < k = c.loop-class.invariant.0 in
     let at : c.index.result.now ≡ get_or places k 0 = c.index.ensures ∙ get_or_default places k c.index.result.now 0 within in
     let seen = ap (λ (all : List (List Bool)). has_some (get_or all k [])) c.self.view_is in
-    let long = ap length c.self.view_is in
-    (omega arith, λ e. absurd (omega (arith, e, within, long, length-map places (λ (p : ℕ). get_or rows p []))), elim c.if-index-ne0.branch [
-      | then-index-ne0+in_ok-push w ↦ rw w.classes-is (w.in_ok-push.ensures.items ∙ ap (λ (found : List ℕ). found ++ k ∷ []) c.loop-class.invariant.2
+    let long = ap length c.self.view_is in (
+      omega arith,
+      λ e. absurd (omega (arith, e, within, long, length-map places (λ (p : ℕ). get_or rows p []))),
+      elim c.if-index-ne0.branch [
+        | then-index-ne0+in_ok-push w ↦ rw w.classes-is (w.in_ok-push.ensures.items ∙ ap (λ (found : List ℕ). found ++ k ∷ []) c.loop-class.invariant.2
             ∙ sym (one_found has k some (sym seen ∙ has_one rows places c.self.invariant k some within (λ zero. absurd (omega (arith, at, zero))))))
-      | else-index-ne0 w ↦ rw w.classes-is (c.loop-class.invariant.2 ∙ sym (none_found has k some (sym seen ∙ has_none rows places c.self.invariant k within (omega (arith, at)))))
-    ])
+        | else-index-ne0 w ↦ rw w.classes-is (c.loop-class.invariant.2 ∙ sym (none_found has k some (sym seen ∙ has_none rows places c.self.invariant k within (omega (arith, at)))))
+      ],
+    )
 
 pub returns : goal.returns
 returns c =

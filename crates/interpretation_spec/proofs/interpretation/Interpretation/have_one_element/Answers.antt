@@ -1,13 +1,8 @@
-use Rattle.std.proofs.Common.{◌<◌, ℕ, sym, ◌∙◌, length, refl, true≢false, arith}
-use Rattle.lemmas.proofs.Mapped.{All-from_map}
+use Rattle.std.proofs.Common.{sym, ◌∙◌, refl, true≢false, arith}
 use Rattle.axioms.specs.declared.ids.IndId.{IndId}
 use Rattle.interpretation_spec.specs.NumberedInterpretation.{HaveOneElement}
 use Rattle.interpretation_spec.proofs.Shapes.{first_and, pairs_of_places, places_of_pairs}
 use Rattle.interpretation_spec.proofs.interpretation.Interpretation.have_one_element.Goals as goal
-
-pub element_at-requires : goal.element_at-requires
-element_at-requires c =
-    All-from_map (λ (a : ℕ). a < length c.args.self.now.individuals) (λ (a : IndId). a.0) c.args.individuals.now c.requires c.loop-individual.individual-index record { 0 = 0 } c.loop-individual-test.true
 
 pub returns-then-element_at-element : goal.returns-then-element_at-element
 returns-then-element_at-element c =

@@ -1,7 +1,0 @@
-use Rattle.std.proofs.Common.{List, [], Bool, ap}
-use Rattle.number_sets.specs.Members.{has}
-use Rattle.number_sets.proofs.Absent.{none_at}
-use Rattle.answer_texts.proofs.looking.is_member.Goals as goal
-
-pub returns-in-None : goal.returns-in-None
-returns-in-None c = ap (λ (row : List Bool). has row c.args.element) (none_at c.args.interpretation.now.classes c.args.class.0 [] c.in-None.ensures)

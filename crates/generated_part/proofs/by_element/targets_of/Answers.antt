@@ -1,5 +1,0 @@
-use Rattle.number_sets.proofs.Absent.{none_there}
-use Rattle.generated_part.proofs.by_element.targets_of.Goals as goal
-
-pub returns-in-None : goal.returns-in-None
-returns-in-None c = none_there c.args.interpretation.now.pairs c.args.property.0 c.args.element c.in-None.ensures
