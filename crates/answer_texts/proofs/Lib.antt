@@ -4,3 +4,4 @@ pub mod Forms
 pub mod EachLine
 pub mod Reaching
 pub mod Classes
+pub mod Labelling

@@ -38,13 +38,25 @@ proof_graph o lines =
 abbrev pub escaped_name : List ℕ → List ℕ
 escaped_name name = codes "<" ++ escaped name ++ codes ">"
 
+-- the name of a class, and of an individual
+abbrev pub class_label : Names → ℕ → List ℕ
+class_label names c = codes "\\n" ++ escaped_name (name_at names.classes c)
+
+abbrev pub individual_label : Names → ℕ → List ℕ
+individual_label names a = codes "\\nindividual " ++ escaped_name (name_at names.individuals a)
+
 -- the name of the class, where the element is in it
 abbrev pub class_line : Names → NumberedInterpretation → ℕ → ℕ → List ℕ
-class_line names i x c = if has (members_of i c) x then codes "\\n" ++ escaped_name (name_at names.classes c) else []
+class_line names i x c = if has (members_of i c) x then class_label names c else []
 
 -- the name of the individual, where the element is it
 abbrev pub individual_line : Names → ℕ → ℕ × ℕ → List ℕ
-individual_line names x (a, y) = if y == x then codes "\\nindividual " ++ escaped_name (name_at names.individuals a) else []
+individual_line names x (a, y) = if y == x then individual_label names a else []
+
+-- all of both but owl:Thing, by their numbers
+abbrev pub element_labels : Names → NumberedInterpretation → ℕ → List ℕ
+element_labels names i x =
+    flat_map (class_line names i x) (range_with_len 1 (length names.classes - 1)) ++ flat_map (individual_line names x) (enumerate_from 0 i.individuals)
 
 -- the element that refutes has two outlines
 abbrev pub outlines : ℕ → ℕ → List ℕ
@@ -52,10 +64,7 @@ outlines refuting x = if x == refuting then codes ", peripheries=2" else []
 
 abbrev pub element_node : Names → NumberedInterpretation → ℕ → ℕ → List ℕ
 element_node names i refuting x =
-    codes "  " ++ decimal x ++ codes " [label=\"" ++ decimal x
-    ++ flat_map (class_line names i x) (range_with_len 1 (length names.classes - 1))
-    ++ flat_map (individual_line names x) (enumerate_from 0 i.individuals)
-    ++ codes "\"" ++ outlines refuting x ++ codes "];\n"
+    codes "  " ++ decimal x ++ codes " [label=\"" ++ decimal x ++ element_labels names i x ++ codes "\"" ++ outlines refuting x ++ codes "];\n"
 
 abbrev pub pair_edge : List ℕ → ℕ → ℕ → List ℕ
 pair_edge name x y = codes "  " ++ decimal x ++ codes " -> " ++ decimal y ++ codes " [label=\"" ++ escaped_name name ++ codes "\"];\n"

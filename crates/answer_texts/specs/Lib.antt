@@ -8,3 +8,4 @@ pub mod Graphs
 pub mod Reached
 pub mod Cited
 pub mod Told
+pub mod Labels

@@ -1,17 +1,19 @@
 //! A refutation as a graph.
 ghost use Rattle.answer_texts.specs.Graphs as graphs;
+ghost use Rattle.answer_texts.specs.Labels.{AddsTold};
 ghost use Rattle.answer_texts.specs.Reached.{others_label, reached_graph};
 ghost use Rattle.axioms.specs.Ontology.{name_at};
 ghost use Rattle.interpretation_spec.specs.NumberedInterpretation.{IsMadeFor};
-ghost use Rattle.std.specs.List.{enumerate_from, flat_map, range_with_len};
-ghost use Rattle.std.specs.Prelude.{◌++◌, ◌-◌, ◌≡◌, IfOk, OnOk, length, map};
+ghost use Rattle.std.specs.List.{flat_map};
+ghost use Rattle.std.specs.Prelude.{◌++◌, ◌≡◌, IfOk, OnOk, map};
 ghost use Rattle.std.specs.String.{string_bytes};
 
 use crate::graph_of_proof::push_escaped;
+use crate::labels::Labels;
 use crate::looking::{all_elements, elements_in};
 use crate::names::{name_of, push_number};
 use crate::pairs::{PairText, push_properties};
-use axioms::{ClassId, IndId, Memory, Ontology};
+use axioms::{Memory, Ontology};
 use interpretation_spec::Interpretation;
 use number_sets::EpochSet;
 use std::alloc::{AllocError, Global};
@@ -25,82 +27,39 @@ fn push_label(out: &mut Vec<u8>, names: &[String], n: usize) -> Result<(), Alloc
     out.extend_from_slice(b">")
 }
 
-// Adds the name of the class, where the element is in it.
-fn push_class(
+// Adds the names of these numbers, each behind the bytes.
+fn push_names(
     out: &mut Vec<u8>,
-    ontology: &Ontology,
-    interpretation: &Interpretation,
-    element: usize,
-    class: ClassId,
-) -> Result<(), AllocError>
-    ensures { OnOk result (out.new.items ≡ out.old.items ++ graphs.class_line ontology.now.names interpretation.now element class.0) }
-{
-    if !interpretation.is_member(class, element) {
-        return Ok(());
-    }
-    out.extend_from_slice(b"\\n")?;
-    push_label(out, ontology.classes(), class.index())
-}
-
-// Adds the names of the element's classes but owl:Thing.
-fn push_classes(
-    out: &mut Vec<u8>,
-    ontology: &Ontology,
-    interpretation: &Interpretation,
-    element: usize,
+    before: &[u8],
+    names: &[String],
+    numbers: &[u32],
 ) -> Result<(), AllocError>
     ensures { OnOk result
-        (out.new.items
-        ≡ out.old.items ++ flat_map (graphs.class_line ontology.now.names interpretation.now element) (range_with_len 1 (length ontology.now.names.classes - 1))) }
+        (out.new.items ≡ out.old.items ++ flat_map (λ n. before.now ++ graphs.escaped_name (name_at (map string_bytes names.now) n)) numbers.now) }
 {
-    ontology.well_formed();
-    ontology.bounded();
-    for number in 1..ontology.classes().len() {
-        push_class(
-            out,
-            ontology,
-            interpretation,
-            element,
-            ClassId(number as u32),
-        )?;
+    for number in numbers {
+        out.extend_from_slice(before)?;
+        push_label(out, names, *number as usize)?;
     }
     Ok(())
 }
 
-// Adds the name of the individual, where the element is its own.
-fn push_individual(
+// Adds the names of the element's classes but owl:Thing, and of the individuals whose element it is, by its labels.
+fn push_labels(
     out: &mut Vec<u8>,
     ontology: &Ontology,
-    element: usize,
-    individual: usize,
-    own: usize,
-) -> Result<(), AllocError>
-    ensures { OnOk result (out.new.items ≡ out.old.items ++ graphs.individual_line ontology.now.names element (individual, own)) }
-{
-    if own != element {
-        return Ok(());
-    }
-    out.extend_from_slice(b"\\nindividual ")?;
-    push_label(out, ontology.individuals(), individual)
-}
-
-// Adds the names of the individuals whose element it is.
-fn push_individuals(
-    out: &mut Vec<u8>,
-    ontology: &Ontology,
-    interpretation: &Interpretation,
+    labels: &Labels,
     element: usize,
 ) -> Result<(), AllocError>
-    requires { IsMadeFor ontology.now.names interpretation.now }
-    ensures { OnOk result
-        (out.new.items
-        ≡ out.old.items ++ flat_map (graphs.individual_line ontology.now.names element) (enumerate_from 0 interpretation.now.individuals)) }
+    ensures { OnOk result (AddsTold ontology.now.names labels.now (λ i. graphs.element_labels ontology.now.names i element) out.old.items out.new.items) }
 {
-    ontology.bounded();
-    for number in 0..ontology.individuals().len() {
-        let own = interpretation.element_at(IndId(number as u32));
-        push_individual(out, ontology, element, number, own)?;
-    }
+    push_names(out, b"\\n", ontology.classes(), labels.classes.at(element))?;
+    push_names(
+        out,
+        b"\\nindividual ",
+        ontology.individuals(),
+        labels.individuals.at(element),
+    )?;
     Ok(())
 }
 
@@ -114,39 +73,37 @@ fn push_outlines(out: &mut Vec<u8>, refuting: usize, element: usize) -> Result<(
     out.extend_from_slice(b", peripheries=2")
 }
 
+// Adds the node of the element, by what its labels say.
 fn push_node(
     out: &mut Vec<u8>,
     ontology: &Ontology,
-    interpretation: &Interpretation,
+    labels: &Labels,
     refuting: usize,
     element: usize,
 ) -> Result<(), AllocError>
-    requires { IsMadeFor ontology.now.names interpretation.now }
-    ensures { OnOk result (out.new.items ≡ out.old.items ++ graphs.element_node ontology.now.names interpretation.now refuting element) }
+    ensures { OnOk result (AddsTold ontology.now.names labels.now (λ i. graphs.element_node ontology.now.names i refuting element) out.old.items out.new.items) }
 {
     push_number(out, b"  ", element as u64)?;
     push_number(out, b" [label=\"", element as u64)?;
-    push_classes(out, ontology, interpretation, element)?;
-    push_individuals(out, ontology, interpretation, element)?;
+    push_labels(out, ontology, labels, element)?;
     out.extend_from_slice(b"\"")?;
     push_outlines(out, refuting, element)?;
-    out.extend_from_slice(b"];\n")
+    out.extend_from_slice(b"];\n")?;
+    Ok(())
 }
 
 // Adds the nodes of the elements.
 fn push_nodes(
     out: &mut Vec<u8>,
     ontology: &Ontology,
-    interpretation: &Interpretation,
+    labels: &Labels,
     elements: &[usize],
     refuting: usize,
 ) -> Result<(), AllocError>
-    requires { IsMadeFor ontology.now.names interpretation.now }
-    ensures { OnOk result
-        (out.new.items ≡ out.old.items ++ flat_map (graphs.element_node ontology.now.names interpretation.now refuting) elements.now) }
+    ensures { OnOk result (AddsTold ontology.now.names labels.now (λ i. flat_map (graphs.element_node ontology.now.names i refuting) elements.now) out.old.items out.new.items) }
 {
     for element in elements {
-        push_node(out, ontology, interpretation, refuting, *element)?;
+        push_node(out, ontology, labels, refuting, *element)?;
     }
     Ok(())
 }
@@ -179,13 +136,15 @@ fn push_drawn(
     interpretation: &Interpretation,
     elements: &[usize],
     refuting: usize,
-) -> Result<(), AllocError>
+) -> Result<(), Memory>
     requires { IsMadeFor ontology.now.names interpretation.now }
     ensures { OnOk result (out.new.items ≡ out.old.items ++ graphs.drawn ontology.now.names interpretation.now elements.now refuting) }
 {
-    push_nodes(out, ontology, interpretation, elements, refuting)?;
+    let labels = Labels::of(*out.allocator(), ontology, interpretation)?;
+    push_nodes(out, ontology, &labels, elements, refuting)?;
     push_properties::<PairEdge>(out, ontology, interpretation, elements)?;
-    out.extend_from_slice(b"}\n")
+    out.extend_from_slice(b"}\n")?;
+    Ok(())
 }
 
 /// Adds the whole graph.

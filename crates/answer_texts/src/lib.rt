@@ -8,6 +8,7 @@ mod condition;
 mod expression;
 mod graph_of_proof;
 mod graph_of_refutation;
+mod labels;
 mod looking;
 mod names;
 mod pairs;

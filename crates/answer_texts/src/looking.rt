@@ -1,10 +1,11 @@
 //! Which elements of an interpretation a text tells of.
 ghost use Rattle.answer_texts.specs.Pairs.{all_elements as all};
 ghost use Rattle.answer_texts.specs.Reached.{elements_in as in_set};
+ghost use Rattle.answer_texts.specs.Refutation.{elements_of};
 ghost use Rattle.std.specs.Prelude.{◌≡◌, ◌≤◌, IfOk, length};
 
-use axioms::Memory;
-use interpretation_spec::Interpretation;
+use axioms::{ClassId, Memory};
+use interpretation_spec::{Interpretation, members};
 use number_sets::EpochSet;
 use std::alloc::Global;
 
@@ -45,4 +46,19 @@ pub(crate) fn elements_in(
         }
     }
     Ok(elements)
+}
+
+/// The elements of the class, ascending.
+pub(crate) fn class_members(
+    alloc: Global,
+    interpretation: &Interpretation,
+    class: ClassId,
+) -> Result<Vec<usize>, Memory>
+    ensures { IfOk result (λ v. v.items ≡ elements_of interpretation.now (all interpretation.now) class.0) }
+{
+    interpretation.well_formed();
+    match interpretation.holders(class) {
+        Some(row) => members(alloc, row),
+        None => Ok(Vec::new(alloc)),
+    }
 }

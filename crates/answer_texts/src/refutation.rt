@@ -9,11 +9,11 @@ ghost use Rattle.number_sets.specs.Members.{has};
 ghost use Rattle.std.specs.List.{enumerate_from, filter, flat_map, range_with_len};
 ghost use Rattle.std.specs.Prelude.{◌++◌, ◌-◌, ◌≡◌, IfOk, OnOk, length, option_map};
 
-use crate::looking::{Told, all_elements, elements_in};
+use crate::looking::{Told, all_elements, class_members, elements_in};
 use crate::names::{push_name, push_number};
 use crate::pairs::{PairText, push_properties};
 use axioms::{ClassId, IndId, Memory, Ontology};
-use interpretation_spec::{Interpretation, members};
+use interpretation_spec::Interpretation;
 use number_sets::EpochSet;
 use std::alloc::{AllocError, Global};
 
@@ -58,11 +58,7 @@ fn listed_elements(
         (λ v. v.items
         ≡ text.elements_of interpretation.now (told_elements interpretation.now (option_map (λ set. set.now) reached.entry)) class.0) }
 {
-    interpretation.well_formed();
-    let Some(row) = interpretation.holders(class) else {
-        return Ok(Vec::new(alloc));
-    };
-    let members = members(alloc, row)?;
+    let members = class_members(alloc, interpretation, class)?;
     match reached {
         Some(set) => those_in(alloc, &members, set),
         None => Ok(members),
