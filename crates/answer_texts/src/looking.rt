@@ -2,18 +2,54 @@
 ghost use Rattle.answer_texts.specs.Pairs.{all_elements as all};
 ghost use Rattle.answer_texts.specs.Reached.{elements_in as in_set};
 ghost use Rattle.answer_texts.specs.Refutation.{elements_of};
-ghost use Rattle.std.specs.Prelude.{◌≡◌, ◌≤◌, IfOk, length};
+ghost use Rattle.answer_texts.specs.Told.{told_elements};
+ghost use Rattle.std.specs.Prelude.{◌≡◌, ◌≤◌, IfOk, length, option_map};
 
 use axioms::{ClassId, Memory};
 use interpretation_spec::{Interpretation, members};
 use number_sets::EpochSet;
 use std::alloc::Global;
 
-/// The elements that a text tells of, ascending: those that are reached, or all where nothing says which are.
-#[derive(Clone, Copy)]
+/// An interpretation and its elements that a text tells of, ascending: those that are reached, or all where nothing says which are.
+#[derive(Drop)]
 pub(crate) struct Told<'a> {
-    pub elements: &'a [usize],
+    pub interpretation: &'a Interpretation,
+    pub elements: Vec<usize>,
     pub reached: Option<&'a EpochSet>,
+    ghost are: { elements.items ≡ told_elements interpretation.now (option_map (λ set. set.now) reached) },
+}
+
+impl<'a> Told<'a> {
+    /// All elements are told of.
+    pub(crate) fn all(alloc: Global, interpretation: &'a Interpretation) -> Result<Told<'a>, Memory>
+        ensures of { IfOk result (λ told. told.interpretation.now ≡ interpretation.now) }
+        ensures elements { IfOk result (λ told. told.elements.items ≡ all interpretation.now) }
+    {
+        let elements = all_elements(alloc, interpretation)?;
+        Ok(Told {
+            interpretation,
+            elements,
+            reached: None,
+        })
+    }
+
+    /// Those of the set are.
+    pub(crate) fn those(
+        alloc: Global,
+        interpretation: &'a Interpretation,
+        reached: &'a EpochSet,
+    ) -> Result<Told<'a>, Memory>
+        ensures of { IfOk result (λ told. told.interpretation.now ≡ interpretation.now) }
+        ensures elements { IfOk result (λ told. told.elements.items ≡ in_set interpretation.now reached.now) }
+        ensures few { IfOk result (λ told. length told.elements.items ≤ interpretation.now.size) }
+    {
+        let elements = elements_in(alloc, interpretation, reached)?;
+        Ok(Told {
+            interpretation,
+            elements,
+            reached: Some(reached),
+        })
+    }
 }
 
 /// All elements.

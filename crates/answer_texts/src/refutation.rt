@@ -9,7 +9,7 @@ ghost use Rattle.number_sets.specs.Members.{has};
 ghost use Rattle.std.specs.List.{enumerate_from, filter, flat_map, range_with_len};
 ghost use Rattle.std.specs.Prelude.{◌++◌, ◌-◌, ◌≡◌, IfOk, OnOk, length, option_map};
 
-use crate::looking::{Told, all_elements, class_members, elements_in};
+use crate::looking::{Told, class_members};
 use crate::names::{push_name, push_number};
 use crate::pairs::{PairText, push_properties};
 use axioms::{ClassId, IndId, Memory, Ontology};
@@ -66,19 +66,13 @@ fn listed_elements(
 }
 
 // Those of the elements that are told of that are in the class. Where these are few beside all, each is tested.
-fn elements_of(
-    alloc: Global,
-    interpretation: &Interpretation,
-    told: Told<'_>,
-    class: ClassId,
-) -> Result<Vec<usize>, Memory>
-    requires { told.elements.now ≡ told_elements interpretation.now (option_map (λ set. set.now) told.reached) }
-    ensures { IfOk result (λ v. v.items ≡ text.elements_of interpretation.now told.entry.elements.now class.0) }
+fn elements_of(alloc: Global, told: &Told<'_>, class: ClassId) -> Result<Vec<usize>, Memory>
+    ensures { IfOk result (λ v. v.items ≡ text.elements_of told.now.interpretation.now told.now.elements.items class.0) }
 {
-    if told.elements.len() < interpretation.size() / 64 {
-        return tested_elements(alloc, interpretation, told.elements, class);
+    if told.elements.len() < told.interpretation.size() / 64 {
+        return tested_elements(alloc, told.interpretation, &told.elements, class);
     }
-    listed_elements(alloc, interpretation, told.reached, class)
+    listed_elements(alloc, told.interpretation, told.reached, class)
 }
 
 // Adds the numbers, each behind a space.
@@ -114,20 +108,18 @@ fn push_classes(
     alloc: Global,
     out: &mut Vec<u8>,
     ontology: &Ontology,
-    interpretation: &Interpretation,
-    told: Told<'_>,
+    told: &Told<'_>,
 ) -> Result<(), Memory>
-    requires made { IsMadeFor ontology.now.names interpretation.now }
-    requires told { told.elements.now ≡ told_elements interpretation.now (option_map (λ set. set.now) told.reached) }
+    requires { IsMadeFor ontology.now.names told.now.interpretation.now }
     ensures { OnOk result
         (out.new.items
-        ≡ out.old.items ++ flat_map (text.class_text ontology.now.names interpretation.now told.entry.elements.now) (range_with_len 1 (length ontology.now.names.classes - 1))) }
+        ≡ out.old.items ++ flat_map (text.class_text ontology.now.names told.now.interpretation.now told.now.elements.items) (range_with_len 1 (length ontology.now.names.classes - 1))) }
 {
     ontology.bounded();
-    let classes = interpretation.classes_with_elements(alloc)?;
+    let classes = told.interpretation.classes_with_elements(alloc)?;
     for number in &classes {
         let class = ClassId(*number as u32);
-        let members = elements_of(alloc, interpretation, told, class)?;
+        let members = elements_of(alloc, told, class)?;
         push_class(out, ontology, class, &members)?;
     }
     Ok(())
@@ -214,17 +206,15 @@ fn push_rows(
     alloc: Global,
     out: &mut Vec<u8>,
     ontology: &Ontology,
-    interpretation: &Interpretation,
-    told: Told<'_>,
+    told: &Told<'_>,
 ) -> Result<(), Memory>
-    requires made { IsMadeFor ontology.now.names interpretation.now }
-    requires told { told.elements.now ≡ told_elements interpretation.now (option_map (λ set. set.now) told.reached) }
-    ensures { OnOk result (out.new.items ≡ out.old.items ++ text.rows_text ontology.now.names interpretation.now told.entry.elements.now) }
+    requires { IsMadeFor ontology.now.names told.now.interpretation.now }
+    ensures { OnOk result (out.new.items ≡ out.old.items ++ text.rows_text ontology.now.names told.now.interpretation.now told.now.elements.items) }
 {
-    push_number(out, b"no\ndomain ", interpretation.size() as u64)?;
+    push_number(out, b"no\ndomain ", told.interpretation.size() as u64)?;
     out.extend_from_slice(b"\n")?;
-    push_classes(alloc, out, ontology, interpretation, told)?;
-    push_properties::<PairLine>(out, ontology, interpretation, told.elements)?;
+    push_classes(alloc, out, ontology, told)?;
+    push_properties::<PairLine>(out, ontology, told.interpretation, &told.elements)?;
     Ok(())
 }
 
@@ -247,12 +237,8 @@ pub(crate) fn push_refutation(
     requires { IsMadeFor ontology.now.names interpretation.now }
     ensures { OnOk result (out.new.items ≡ out.old.items ++ text.refutation_text ontology.now.names interpretation.now element) }
 {
-    let elements = all_elements(alloc, interpretation)?;
-    let told = Told {
-        elements: &elements,
-        reached: None,
-    };
-    push_rows(alloc, out, ontology, interpretation, told)?;
+    let told = Told::all(alloc, interpretation)?;
+    push_rows(alloc, out, ontology, &told)?;
     push_individuals(out, ontology, interpretation)?;
     push_element(out, element)?;
     Ok(())
@@ -269,14 +255,10 @@ pub(crate) fn text_of_reached(
     requires { IsMadeFor ontology.now.names interpretation.now }
     ensures { IfOk result (λ v. v.items ≡ reached_text ontology.now.names interpretation.now reached.now element) }
 {
-    let elements = elements_in(alloc, interpretation, reached)?;
-    let others = interpretation.size() - elements.len();
-    let told = Told {
-        elements: &elements,
-        reached: Some(reached),
-    };
+    let told = Told::those(alloc, interpretation, reached)?;
+    let others = interpretation.size() - told.elements.len();
     let mut out = Vec::new(alloc);
-    push_rows(alloc, &mut out, ontology, interpretation, told)?;
+    push_rows(alloc, &mut out, ontology, &told)?;
     push_individuals_in(&mut out, ontology, interpretation, reached)?;
     push_element(&mut out, element)?;
     push_number(&mut out, b"others ", others as u64)?;

@@ -13,13 +13,13 @@ use Rattle.answer_texts.proofs.refutation.push_classes.Goals as goal
 
 pub overflow_cast-class : goal.overflow_cast-class
 overflow_cast-class c =
-    let i = c.args.interpretation.now in
+    let i = c.args.told.now.interpretation.now in
     let numbers = range_with_len 1 (length i.classes - 1) in
     let below : All (λ n. n < 1 + (length i.classes - 1)) (filter (has_elements i) numbers) = All-filter (has_elements i) (λ n. n < 1 + (length i.classes - 1)) numbers (range_below 1 (length i.classes - 1)) in
     let classes = c.deref-number-items.result.now in
     let are : classes ≡ filter (has_elements i) numbers = c.deref-number-items.ensures.value ∙ c.in_ok-classes.ensures in
     let low = subst (All (λ n. n < 1 + (length i.classes - 1))) (sym are) below c.loop-number.number-index 0 (omega arith) in
-    record { fits = omega (arith, low, c.requires.made.classes, c.bounded.ensures.classes) }
+    record { fits = omega (arith, low, c.requires.classes, c.bounded.ensures.classes) }
 
 pub loop-number-preserved : goal.loop-number-preserved
 loop-number-preserved c =
@@ -27,7 +27,7 @@ loop-number-preserved c =
     let k = c.loop-number.number-index in
     let out = c.loop-number.out.items in
     let classes = c.deref-number-items.result.now in
-    let f : ℕ → List ℕ = text.class_text names c.args.interpretation.now c.args.told.elements.now in
+    let f : ℕ → List ℕ = text.class_text names c.args.told.now.interpretation.now c.args.told.now.elements.items in
     let class = get_or classes k 0 in
     let step : c.push_class.new.out.items ≡ out ++ f class =
     c.in_ok-push_class.ensures ∙ ap (λ (members : List ℕ). out ++ text.members_text (name_at names.classes class) members) (c.deref.ensures.value ∙ c.in_ok-members.ensures) in
@@ -37,8 +37,8 @@ loop-number-preserved c =
 pub returns : goal.returns
 returns c =
     let names = c.args.ontology.now.names in
-    let i = c.args.interpretation.now in
-    let elements = c.args.told.elements.now in
+    let i = c.args.told.now.interpretation.now in
+    let elements = c.args.told.now.elements.items in
     let told = text.class_text names i elements in
     let classes = c.deref-number-items.result.now in
     let all = take_all c.loop-number.number-index classes c.loop-number-test.false in
@@ -47,4 +47,4 @@ returns c =
     ∙ ap (λ (s : List ℕ). c.args.out.now.items ++ s)
     (filtered told (has_elements i) (λ k none. ap (text.members_text (name_at names.classes k)) (filter_none (has (members_of i k)) (has_none (members_of i k) none) elements))
     (range_with_len 1 (length i.classes - 1))
-    ∙ ap (λ (n : ℕ). flat_map told (range_with_len 1 (n - 1))) c.requires.made.classes)
+    ∙ ap (λ (n : ℕ). flat_map told (range_with_len 1 (n - 1))) c.requires.classes)
