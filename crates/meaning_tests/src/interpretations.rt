@@ -190,7 +190,8 @@ fn a_class_with_an_element(rt: HostRuntime) -> Result<(), Fail> {
 /// Declares the classes A, of number 2, and B, of number 3.
 fn declare_two_classes(builder: &mut Builder) -> Result<(), BuildFault> {
     builder.declare(Kind::Class, "x:A")?;
-    builder.declare(Kind::Class, "x:B")
+    builder.declare(Kind::Class, "x:B")?;
+    Ok(())
 }
 
 /// Puts 69 into A, and 65 and 2 into B.
