@@ -1,5 +1,5 @@
 -- Texts that a loop makes, one piece more at a time.
-use Rattle.std.proofs.Common.{◌≡◌, ℕ, ◌+◌, ◌-◌, ◌<◌, ◌≤◌, List, [], ◌∷◌, ◌++◌, Bool, true, false, if◌then◌else◌, Result, Ok, Err, OnOk, refl, length, map, take, get_or, ap, sym, ◌∙◌, arith, append_assoc}
+use Rattle.std.proofs.Common.{◌≡◌, ℕ, ◌+◌, ◌-◌, ◌<◌, List, [], ◌∷◌, ◌++◌, Bool, true, false, if◌then◌else◌, Result, Ok, Err, OnOk, refl, length, map, take, get_or, ap, sym, ◌∙◌, arith, append_assoc}
 use Rattle.std.specs.Result.{is_ok}
 use Rattle.std.specs.List.{flat_map, enumerate_from, range_with_len, filter}
 use Rattle.std.proofs.lemmas.List.{take_more, append-nil, length-take, length-map, map-append, map-id}
@@ -19,12 +19,6 @@ range_from a n k e = simp map-id at (map-range_with_len_more (λ x. x) a n k (sy
 
 pub range_more : (f : ℕ → List ℕ) (k : ℕ) → flat_map f (range_with_len 0 (k + 1)) ≡ flat_map f (range_with_len 0 k) ++ f k
 range_more f k = ap (flat_map f) (range_from 0 k k (omega arith)) ∙ flat_more f (range_with_len 0 k) k
-
-pub later_more : (f : ℕ → List ℕ) (k : ℕ) → 1 ≤ k → flat_map f (range_with_len 1 (k + 1 - 1)) ≡ flat_map f (range_with_len 1 (k - 1)) ++ f k
-later_more f k l =
-    let e : k + 1 - 1 ≡ k - 1 + 1 = omega arith in
-    ap (λ (n : ℕ). flat_map f (range_with_len 1 n)) e
-    ∙ ap (flat_map f) (range_from 1 (k - 1) k (omega arith)) ∙ flat_more f (range_with_len 1 (k - 1)) k
 
 pub numbered_more : {X Y : Type 0} (f : ℕ × X → List ℕ) (a : ℕ) (g : Y → X) (ys : List Y) (i n : ℕ) (d : Y) → i < length ys → n ≡ a + i
     → flat_map f (enumerate_from a (map g (take (i + 1) ys))) ≡ flat_map f (enumerate_from a (map g (take i ys))) ++ f (n, g (get_or ys i d))
