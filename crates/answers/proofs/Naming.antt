@@ -15,7 +15,7 @@ use Rattle.std.proofs.lemmas.Map.Keys.{IsDistinct-from_apart, IsDistinct-IsPermu
 use Rattle.std.proofs.lemmas.Map.Text.{is_eq-slice_cmp}
 use Rattle.std.proofs.lemmas.Slice.Eq.{bytes_eq-Decides}
 use Rattle.std.specs.Option.{unwrap_or}
-use Rattle.std.proofs.lemmas.Option.{none-some, same_Some, slice_get_within, slice_get-get_or, unwrap_or-slice_get}
+use Rattle.std.proofs.lemmas.Option.{same_Some, slice_get_within, slice_get-get_or, unwrap_or-slice_get}
 use Rattle.std.proofs.lemmas.List.Elements.{All-contains}
 use Rattle.lemmas.proofs.Mapped.{slice_get_map, slice_get_map_from}
 use Rattle.lemmas.proofs.Members.{Contains-from_slice_get, slice_get-from_Contains}
@@ -52,13 +52,6 @@ pub those_marked : (names : List Iri) (P : Iri → Type 0) (marks : List Bool) �
 those_marked names P marks are answer those = those_same names answer (HasMark names marks) P (mark_tells names marks P are.exact) those
 
 -- ---- one name after another
-
-pub none_marked : (names : List Iri) (marks : List Bool) → AreMarkedBelow 0 names marks []
-none_marked names marks = record {
-  distinct = λ m n x h. absurd (none-some x h);
-  each = λ m name h. absurd (none-some name h);
-  all = λ n name at is. (let low : n < 0 = is.0 in absurd (omega arith));
-}
 
 module _ (k : ℕ) (names : List Iri) (marks : List Bool) (found : List Iri) (was : AreMarkedBelow k names marks found) where
   -- the same up to a later number, where from here on none that is marked has a name
