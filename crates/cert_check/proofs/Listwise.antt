@@ -5,7 +5,7 @@ use Rattle.std.proofs.lemmas.List.{length-set, get_or-set_same, get_or-set_other
 use Rattle.lemmas.proofs.Places.{slice_get_push, keeps_push, slice_get_push_cases}
 use Rattle.axioms.specs.Ontology.{Ontology, IsClassAt}
 use Rattle.axioms.proofs.Trees.{one_class}
-use Rattle.certificate.specs.Certificate.{Conclusion, Sub, Expression, Individual}
+use Rattle.certificate.specs.Certificate.{Conclusion}
 use Rattle.certificate.specs.View.{class_row_of}
 use Rattle.certificate.specs.declared.listed.ClassRow.{ClassRow}
 use Rattle.number_sets.specs.Pieces.{list_at}
@@ -54,39 +54,8 @@ one_more lists a b c d lc = elim (cases_eq c a) [
       ))
 ]
 
-pub adds_one : (adds : ℕ → ℕ → Type 0) (lists : List (List ℕ)) (a b : ℕ) → adds a b → ((c d : ℕ) → adds c d → (c ≡ a) × (d ≡ b)) → AddsNumbers adds lists (with_listed lists a b)
-adds_one adds lists a b here only = record {
-  long = length-set lists a (list_at lists a ++ b ∷ []);
-  each = λ c d lc.
-      let more = one_more lists a b c d lc in (
-        λ t. elim (more.0 t) [
-          | inl u ↦ inl u
-          | inr p ↦ inr (subst (λ k. adds k d) (sym p.0) (subst (λ k. adds a k) (sym p.1) here))
-        ],
-        λ s. elim s [ inl u ↦ more.1 (inl u) | inr p ↦ more.1 (inr (only c d p)) ],
-      );
-}
-
 pub adds_nothing : (adds : ℕ → ℕ → Type 0) (lists : List (List ℕ)) → ((c d : ℕ) → adds c d → ⊥) → AddsNumbers adds lists lists
 adds_nothing adds lists none = record { long = refl; each = λ c d lc. (λ t. inl t, λ s. elim s [ inl u ↦ u | inr p ↦ absurd (none c d p) ]) }
-
--- ---- one conclusion puts one class below one class
-
-pub puts_below_once : (o : Ontology) (a : Conclusion) (c d c' d' : ℕ) → PutsBelow o a c d → PutsBelow o a c' d' → (c' ≡ c) × (d' ≡ d)
-puts_below_once o a c d c' d' (e, f, s, g, h) (e', f', s', g', h') =
-    let same : Sub (Expression e) f ≡ Sub (Expression e') f' = sym s ∙ s' in
-    let first : e ≡ e' = cc in
-    let second : f ≡ f' = cc in (
-      one_class o c' c e' g' (subst (IsClassAt o c) first g),
-      one_class o d' d f' h' (subst (IsClassAt o d) second h),
-    )
-
-pub puts_into_once : (o : Ontology) (a : Conclusion) (c d c' d' : ℕ) → PutsInto o a c d → PutsInto o a c' d' → (c' ≡ c) × (d' ≡ d)
-puts_into_once o a c d c' d' (f, s, h) (f', s', h') =
-    let same : Sub (Individual c) f ≡ Sub (Individual c') f' = sym s ∙ s' in
-    let first : c' ≡ c = cc in
-    let second : f ≡ f' = cc in
-    (first, one_class o d' d f' h' (subst (IsClassAt o d) second h))
 
 -- ---- what all conclusions say
 

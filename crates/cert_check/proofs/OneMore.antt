@@ -2,7 +2,7 @@
 use Rattle.std.proofs.Common.{◌≡◌, ◌↔◌, ℕ, ◌+◌, ◌⊎◌, ◌||◌, Bool, IsTrue, true, false, List, [], ◌∷◌, ◌++◌, length, take, slice_get, Some, None, Option, refl, sym, ap, ◌∙◌, subst, inl, inr, arith}
 use Rattle.std.proofs.lemmas.Bool.{false≢true}
 use Rattle.std.proofs.lemmas.List.{length-map, map_push}
-use Rattle.std.proofs.lemmas.Option.{none-some, slice_get_within}
+use Rattle.std.proofs.lemmas.Option.{slice_get_within}
 use Rattle.std.proofs.Math.Seq.{take-append_seam}
 use Rattle.std.proofs.lemmas.List.{take-append-le}
 use Rattle.lemmas.proofs.Places.{slice_get_push, keeps_push, slice_get_push_cases}
@@ -12,7 +12,7 @@ use Rattle.taxonomy.specs.Texts.{inconsistent_taxonomy_text, inconsistent_instan
 use Rattle.cert_check.specs.Derivation.{IsDerived, IsDerivation}
 use Rattle.cert_check.specs.Faults.{IsFirstBadLine}
 use Rattle.cert_check.specs.Lists.{said_by, AddsNumbers, PutsBelow, PutsInto, AreSuperclasses, AreTypes}
-use Rattle.cert_check.specs.Tests.{AreTested, AreKept}
+use Rattle.cert_check.specs.Tests.{AreTested}
 use Rattle.cert_check.specs.Verdict.{IsContradiction, HasContradiction, AreShown, TextsAgainst, ContradictionAgainst, ContradictionAgainstShown}
 use Rattle.cert_check.specs.declared.verdict.Reason.{Reason}
 use Rattle.cert_check.specs.declared.verdict.Reason.TheVariants.{BadText, BadLine, AxiomFails, ClaimMissing, ClaimDisagrees, IndividualDisagrees, NoContradiction, TaxonomyDiffers, InstancesDiffer}
@@ -21,9 +21,6 @@ use Rattle.cert_check.proofs.Listwise.{some_push, superclasses_push, types_push}
 -- what stands before a place does not hang on a line behind it
 before_same : (lines : List Line) (last : Line) (n : ℕ) (line : Line) → slice_get lines n ≡ Some line → take n (lines ++ last ∷ []) ≡ take n lines
 before_same lines last n line g = take-append-le n lines (last ∷ []) (omega (arith, slice_get_within lines n line g))
-
-pub none_tested : (o : Ontology) → AreTested o [] [] None
-none_tested o = record { said_is = refl; bad_is = λ n line g. absurd (none-some line g) }
 
 one_more_said : (lines : List Line) (last : Line) → said_by (lines ++ last ∷ []) ≡ said_by lines ++ last.conclusion ∷ []
 one_more_said lines last = map_push (λ l. l.conclusion) lines last
@@ -102,16 +99,6 @@ contradiction_more lines last before now b n =
       λ t. elim (e.0 t) [ inl u ↦ p.1 (inl (b.0 u)) | inr u ↦ p.1 (inr (n.0 u)) ],
       λ s. elim (p.0 s) [ inl u ↦ e.1 (inl (b.1 u)) | inr u ↦ e.1 (inr (n.1 u)) ],
     )
-
-pub none_kept : (o : Ontology) (above types : List (List ℕ)) → AreSuperclasses o [] above → AreTypes o [] types → AreKept o [] [] None false above types
-none_kept o above types a t = record {
-  tested = none_tested o;
-  shown = record {
-    contradiction = (λ e. absurd (false≢true e), λ (k, line, g, p). absurd (none-some line g));
-    superclasses = a;
-    members = t;
-  };
-}
 
 pub shown_more : (o : Ontology) (lines : List Line) (last : Line) (old now : Bool) (above above' types types' : List (List ℕ)) → AreShown o lines old above types
     → (IsTrue now ↔ HasContradiction (lines ++ last ∷ [])) → AddsNumbers (PutsBelow o last.conclusion) above above' → AddsNumbers (PutsInto o last.conclusion) types types'

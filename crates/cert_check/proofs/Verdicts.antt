@@ -1,5 +1,5 @@
 -- What is left when all that could speak against a certificate was looked at.
-use Rattle.std.proofs.Common.{◌≡◌, List, ℕ, Some, None, Option, IsNone, IfSome, MatchOption, false, true, is_some, refl, sym}
+use Rattle.std.proofs.Common.{◌≡◌, List, ℕ, Some, None, Option, false, true, is_some, sym}
 use Rattle.std.proofs.lemmas.Bool.{false≢true}
 use Rattle.axioms.specs.Ontology.{Ontology, axiom_trees}
 use Rattle.interpretation_spec.specs.Interpretation.{Interpretation, IsModel}
@@ -10,11 +10,6 @@ use Rattle.cert_check.specs.declared.verdict.Reason.TheVariants.{BadText, BadLin
 use Rattle.cert_check.specs.declared.verdict.Verdict.TheVariants.{Rejected}
 use Rattle.cert_check.specs.Derivation.{IsDerivation}
 use Rattle.cert_check.specs.Verdict.{ClaimsAgainst, ListingAgainst, RelationAgainst, Against, IsJudged, IsVerdict, verdict_of_reason}
-
--- what is said of none and of one
-pub one_or_none : (found : Option ℕ) (M : Type 0) (P : ℕ → Type 0) → (IsNone found → M) → IfSome found P → MatchOption found M P
-one_or_none None M P none some = none refl
-one_or_none (Some n) M P none some = some
 
 -- what speaks against the claims, where all axioms hold
 of_a_claim : (o : Ontology) (t i : List ℕ) (lines : List Line) (l : Listed) (j : Interpretation) (reason : Reason) → IsModel j (axiom_trees o)

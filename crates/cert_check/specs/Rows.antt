@@ -1,12 +1,7 @@
 -- Rows of numbers, and lines.
-use Rattle.std.specs.Prelude.{◌≡◌, ℕ, ◌↔◌, ◌⊎◌, List, Bool, true, length, slice_get, slice_set, Some}
+use Rattle.std.specs.Prelude.{◌≡◌, ℕ, ◌↔◌, ◌⊎◌, List, Bool, true, slice_get, slice_set, Some}
 use Rattle.certificate.specs.Certificate.{Conclusion, Line}
-use Rattle.taxonomy.specs.Relation.{AreOver, row_at, lies_below}
-
--- so many rows, each over so many numbers
-pub record AreRows (count width : ℕ) (rows : List (List Bool)) : Type 0 where
-  pub long : length rows ≡ count
-  pub over : AreOver width rows
+use Rattle.taxonomy.specs.Relation.{row_at, lies_below}
 
 -- the rows with one more number in one of them
 abbrev pub with_number_at : List (List Bool) → ℕ → ℕ → List (List Bool)
