@@ -20,14 +20,6 @@ pub record IsKeptSoFar (format : Format) (number : ℕ) (most : Option ℕ) (byt
   pub kept_is : kept ≡ premises_kept most (written_premises format number all)
   pub fit_is : fit ≡ (list_all is_premise all && are_back format number all)
 
-none_kept : (most : Option ℕ) → [] ≡ premises_kept most []
-none_kept None = refl
-none_kept (Some most) = refl
-
-no_premises : (format : Format) (number : ℕ) → written_premises format number [] ≡ []
-no_premises One number = refl
-no_premises Two number = refl
-
 and_true : (b : Bool) → (b && true) ≡ b
 and_true false = refl
 and_true true = refl

@@ -1,8 +1,8 @@
 -- Values one after another, and the loop that reads them.
-use Rattle.std.proofs.Common.{◌≡◌, ℕ, zero, suc, ◌<◌, ◌≤◌, List, [], ◌∷◌, ◌++◌, length, map, Option, Some, None, refl, sym, ap, subst, ◌∙◌, arith, append_assoc, length-append}
+use Rattle.std.proofs.Common.{◌≡◌, ℕ, zero, suc, ◌<◌, ◌≤◌, List, [], ◌∷◌, ◌++◌, length, Option, Some, None, refl, sym, ap, subst, ◌∙◌, arith, append_assoc, length-append}
 use Rattle.std.specs.List.{flat_map}
 use Rattle.std.proofs.lemmas.Option.{same_Some}
-use Rattle.std.proofs.lemmas.List.{append-nil, map_push}
+use Rattle.std.proofs.lemmas.List.{append-nil}
 use Rattle.certificate.specs.Reading.{Reader, more, many_from, many}
 use Rattle.certificate.proofs.Laws.{Reads}
 
@@ -117,10 +117,3 @@ unfolding many
 all_read {A} F G V t read h bytes items rest so_far e =
     ap (λ (p : List A × List ℕ). Some p) (from_reads F G V t read h (length bytes) None items bytes rest (omega arith)
     (subst (λ (ys : List A). AreRead read None ys bytes rest) (append-nil items) (so_far.goes_on [] rest (e, refl))))
-
--- the same over what the items are seen as
-pub next_read : {A B : Type 0} (view : B → A) (read : Option A → Reader A) (bytes : List ℕ) (items new : List B) (rest : List ℕ) (x : B) (mid : List ℕ) → new ≡ items ++ x ∷ [] → IsReadSoFar read bytes (map view items) rest
-    → read (last_or None (map view items)) rest ≡ Some (view x, mid) → IsReadSoFar read bytes (map view new) mid
-next_read {A} view read bytes items new rest x mid e h f =
-    let e' : map view new ≡ map view items ++ view x ∷ [] = ap (map view) e ∙ map_push view items x in
-    subst (λ (ys : List A). IsReadSoFar read bytes ys mid) (sym e') (one_more_read read bytes (map view items) rest (view x) mid h f)
