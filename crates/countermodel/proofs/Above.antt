@@ -1,16 +1,15 @@
 -- Pairs that are added one by one.
-use Rattle.std.proofs.Common.{◌≡◌, ◌↔◌, ℕ, ◌+◌, ◌/◌, ◌%◌, ◌^◌, ◌<◌, ◌≤◌, inl, inr, List, [], ◌∷◌, ◌++◌, length, get_or, replicate, take, Contains, slice_get, Some, refl, sym, ap, ap₂, ◌∙◌, subst, arith}
+use Rattle.std.proofs.Common.{◌≡◌, ◌↔◌, ℕ, ◌+◌, ◌/◌, ◌%◌, ◌^◌, ◌<◌, ◌≤◌, inl, inr, List, [], ◌∷◌, ◌++◌, length, get_or, take, Contains, slice_get, Some, refl, sym, ap, ap₂, ◌∙◌, subst, arith}
 use Rattle.std.proofs.lemmas.Bool.{cases_lt}
 use Rattle.std.proofs.lemmas.List.{set_past}
 use Rattle.std.specs.Prelude.{slice_set}
-use Rattle.lemmas.proofs.Members.{Contains-none}
 use Rattle.axioms.specs.WellFormedness.{AreDistinct}
 use Rattle.axioms.specs.declared.ids.PropId.{PropId}
 use Rattle.normal_forms.specs.declared.forms.PropId2.{PropId2}
 use Rattle.normal_forms.specs.declared.forms.PropId2.TheVariants.{Property}
 use Rattle.property_closure.specs.PropertyClosures.{Known}
 use Rattle.number_sets.specs.Pieces.{list_at}
-use Rattle.number_sets.proofs.Members.{all_taken, list_at_none, none_taken, one_more_item, one_more_taken}
+use Rattle.number_sets.proofs.Members.{all_taken, none_taken, one_more_item, one_more_taken}
 use Rattle.facts.specs.declared.contexts.Context as code
 use Rattle.facts.specs.declared.contexts.Fact.{Fact}
 use Rattle.facts.specs.declared.contexts.Fact.TheVariants.{Edge}
@@ -105,9 +104,6 @@ module _ (W : Pair → Type 0) (list : List PropId2) (p : Pair) where
 -- ---- facts
 
 module _ (W : Pair → Type 0) (k : Known) (elements : List Context) where
-  pub no_element : (fact : Fact) (old : List (List ℕ)) → ((p : Pair) → IsGivenBy k elements fact p → ⊥) → AddsPairs (λ p. IsGivenBy k elements fact p × W p) old old
-  no_element fact old never p = (λ c. inl c, λ h. elim h [ inl was ↦ was | inr (by, _) ↦ absurd (never p by) ])
-
   pub of_edge : (x y : code.Context) (id : PropId) (source target : ℕ) (old new : List (List ℕ)) → AreDistinct elements
       → slice_get elements source ≡ Some (context_of x) → slice_get elements target ≡ Some (context_of y)
       → AddsPairs (λ q. IsAboveIn k (triple id source target) q × W q) old new → AddsPairs (λ q. IsGivenBy k elements (Edge x (Property id) y) q × W q) old new
@@ -120,12 +116,6 @@ module _ (W : Pair → Type 0) (k : Known) (elements : List Context) where
       | inl was ↦ (adds p).1 (inl was)
       | inr ((s, t, super), w) ↦ (adds p).1 (inr ((super, apart p.source source (context_of x) s at_source, apart p.target target (context_of y) t at_target), w))
     ],
-  )
-
-  pub none_given : (n : ℕ) (facts : List Fact) (p : Pair) → HasPair (replicate n []) p ↔ (IsGiven k elements (take 0 facts) p × W p)
-  none_given n facts p = (
-    λ (key, c, _). absurd (Contains-none key (subst (λ (l : List ℕ). Contains l key) (list_at_none n p.property.0) c)),
-    λ h. absurd (none_taken facts h.0.0 h.0.1),
   )
 
   pub more_given : (facts : List Fact) (n : ℕ) (d : Fact) (old new : List (List ℕ)) → n < length facts → ((p : Pair) → HasPair old p ↔ (IsGiven k elements (take n facts) p × W p))

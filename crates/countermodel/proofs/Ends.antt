@@ -1,9 +1,8 @@
 -- Lists by their last element.
-use Rattle.std.proofs.Common.{◌≡◌, ◌+◌, ◌-◌, ◌<◌, ◌≤◌, ◌⊎◌, inl, inr, List, [], ◌∷◌, ◌++◌, length, get_or, take, set, All, AllPairs, refl, sym, ap, ◌∙◌, subst, subst₂, arith}
-use Rattle.std.proofs.lemmas.List.{get_or_append_left, get_or_push, length_push, take_more, take_all}
+use Rattle.std.proofs.Common.{◌≡◌, ◌+◌, ◌-◌, ◌<◌, ◌⊎◌, inl, inr, List, [], ◌∷◌, ◌++◌, length, get_or, All, AllPairs, refl, ap, subst, subst₂, arith}
+use Rattle.std.proofs.lemmas.List.{get_or_append_left, get_or_push, length_push}
 use Rattle.std.proofs.lemmas.List.Elements.{All-contains, Contains-push}
 use Rattle.std.proofs.lemmas.List.Quantifiers.{all_pairs_push}
-use Rattle.std.proofs.Math.Seq.{set-append_seam}
 
 -- a list is empty or has a last element
 pub ends : {X : Type 0} (xs : List X) → (xs ≡ []) ⊎ ((front : List X) × (last : X) × (xs ≡ front ++ last ∷ []))
@@ -13,19 +12,6 @@ ends {X} (x ∷ xs) = inr (go (ends xs))
     go : (xs ≡ []) ⊎ ((front : List X) × (last : X) × (xs ≡ front ++ last ∷ [])) → (front : List X) × (last : X) × (x ∷ xs ≡ front ++ last ∷ [])
     go (inl e) = ([], x, ap (λ l. x ∷ l) e)
     go (inr (front, last, e)) = (x ∷ front, last, ap (λ l. x ∷ l) e)
-
--- what stands at the last place is the last element
-pub ends_at : {X : Type 0} (xs : List X) (d : X) → 0 < length xs → xs ≡ take (length xs - 1) xs ++ get_or xs (length xs - 1) d ∷ []
-ends_at xs d l =
-    let low : length xs - 1 < length xs = omega arith in
-    let all : length xs ≤ length xs - 1 + 1 = omega arith in
-    sym (take_all (length xs - 1 + 1) xs all) ∙ take_more xs (length xs - 1) d low
-
--- after a write at the last place another element is the last
-pub ends_with : {X : Type 0} (front : List X) (x y : X) → set (front ++ x ∷ []) (length (front ++ x ∷ []) - 1) y ≡ front ++ y ∷ []
-ends_with front x y =
-    let here : length (front ++ x ∷ []) - 1 ≡ length front = omega (arith, length_push front x) in
-    ap (λ n. set (front ++ x ∷ []) n y) here ∙ set-append_seam front x [] y
 
 pub at_end : {X : Type 0} (front : List X) (x d : X) → get_or (front ++ x ∷ []) (length (front ++ x ∷ []) - 1) d ≡ x
 at_end front x d =

@@ -40,10 +40,6 @@ pub code_of-is : (x : Context) → context_of (code_of x) ≡ x
 code_of-is (Expression e) = refl
 code_of-is (Individual a) = refl
 
-says_context : (x : code.Context) → SaysContext x (context_of x)
-says_context (Expr e) = expression refl
-says_context (Individual2 a) = individual refl
-
 context_said : {x : code.Context} {y : Context} → SaysContext x y → y ≡ context_of x
 context_said (expression h) = ap Expression (sym h)
 context_said (individual h) = ap Individual (sym h)

@@ -1,7 +1,6 @@
 -- The elements of the individuals, one behind the other.
-use Rattle.std.proofs.Common.{◌≡◌, ℕ, ◌+◌, ◌<◌, ◌≤◌, inl, inr, List, [], ◌∷◌, ◌++◌, length, slice_get, Some, refl, sym, ◌∙◌, subst₂, arith}
+use Rattle.std.proofs.Common.{◌≡◌, ℕ, ◌+◌, ◌<◌, ◌≤◌, inl, inr, List, [], ◌∷◌, ◌++◌, length, slice_get, Some, sym, ◌∙◌, subst₂, arith}
 use Rattle.std.proofs.lemmas.List.{length-append}
-use Rattle.std.proofs.lemmas.Option.{none-some}
 use Rattle.lemmas.proofs.Places.{slice_get_push_cases}
 use Rattle.axioms.specs.Ontology.{Ontology}
 use Rattle.closure.specs.Closure.{Context, Individual, IsRoot}
@@ -14,9 +13,6 @@ use Rattle.exactness.specs.ListedInterpretation.{AreSatisfiableContexts, IsConsi
 pub record AreFirst (o : Ontology) (elements : List Context) (count : ℕ) (numbers : List ℕ) : Type 0 where
   pub long : length numbers ≡ count
   pub each : (a m : ℕ) → slice_get numbers a ≡ Some m → slice_get elements m ≡ Some (Individual (least_same o a))
-
-pub none_first : (o : Ontology) (elements : List Context) → AreFirst o elements 0 []
-none_first o elements = record { long = refl; each = λ a m h. absurd (none-some m h) }
 
 pub one_first : (o : Ontology) (elements : List Context) (count m : ℕ) (numbers : List ℕ) → AreFirst o elements count numbers → slice_get elements m ≡ Some (Individual (least_same o count)) → AreFirst o elements (count + 1) (numbers ++ m ∷ [])
 one_first o elements count m numbers are at = record {

@@ -1,7 +1,6 @@
 -- What a set of contexts holds after one more was put into it.
 use Rattle.std.proofs.Common.{◌≡◌, ◌↔◌, ℕ, ◌+◌, ◌<◌, ◌≤◌, ◌⊎◌, inl, inr, Bool, true, false, not, ◌&&◌, List, length, replicate, slice_get, get_or, Some, Contains, refl, sym, ap, ◌∙◌, subst, arith, below_more}
-use Rattle.std.proofs.lemmas.List.{length-set, length-replicate}
-use Rattle.std.proofs.lemmas.Bool.{both_ways}
+use Rattle.std.proofs.lemmas.List.{length-set}
 use Rattle.std.proofs.lemmas.Option.{same_Some, slice_get-get_or, slice_get_within}
 use Rattle.lemmas.proofs.Members.{Contains-from_slice_get, slice_get-from_Contains}
 use Rattle.axioms.specs.Ontology.{Ontology}
@@ -40,10 +39,6 @@ put_cases s (Individual2 a) (Individual2 b) h = elim (has_set_cases s.individual
 abbrev pub no_contexts : ℕ → ℕ → ContextSet
 no_contexts m n = record { expressions = replicate m false; individuals = replicate n false }
 
-holds_none : (m n : ℕ) (x : Context) → holds (no_contexts m n) x ≡ true → ⊥
-holds_none m n (Expression e) h = both_ways (holds (no_contexts m n) (Expression e)) (has_none m e) h
-holds_none m n (Individual a) h = both_ways (holds (no_contexts m n) (Individual a)) (has_none n a) h
-
 and_yes : (a b : Bool) → b ≡ false → (a && not b) ≡ a
 and_yes true b off = ap not off
 and_yes false b off = refl
@@ -71,13 +66,6 @@ pub record HasMarked (o : Ontology) (facts : List Fact) (class : ExprId) (k : �
   pub each : (n : ℕ) → n < k → (x : code.Context) → slice_get facts n ≡ Some (In (classes.Expr class) x) → holds s (context_of x) ≡ true
 
 module _ (o : Ontology) (facts : List Fact) (class : ExprId) where
-  pub none_marked : HasMarked o facts class 0 (no_contexts (length o.nodes) (length o.names.individuals))
-  none_marked = record {
-    room = record { expressions = length-replicate (length o.nodes) false; individuals = length-replicate (length o.names.individuals) false };
-    only = λ x h. absurd (holds_none (length o.nodes) (length o.names.individuals) (context_of x) h);
-    each = λ n l. absurd (omega arith);
-  }
-
   pub one_marked : (k : ℕ) (d : Fact) (s : ContextSet) (x : code.Context) → k < length facts → ((x : code.Context) → Contains facts (In (classes.Expr class) x) → IsWithin o (context_of x))
       → get_or facts k d ≡ In (classes.Expr class) x → HasMarked o facts class k s → HasMarked o facts class (k + 1) (with_context s x)
   one_marked k d s x low within is m =
