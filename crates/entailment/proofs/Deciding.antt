@@ -91,9 +91,6 @@ holds_one : (j : Interpretation) (o : Ontology) (a : Axiom) → Satisfies j (axi
 holds_one j o a h = All-cons (Satisfies j) (axiom_tree o a) [] h (All-nil (Satisfies j))
 
 module _ (o : Ontology) (w : IsOntology o) (names : List Iri) (wide : IsOntology (with_individuals o names)) (j : Interpretation) (js : IsInterpretation j) where
-  element : (a : Iri) → j.individual a < j.size
-  element a = js.individuals a
-
   gives : (claim : Claim) → IsClaimOf o claim → Holds o j claim → Assumes o w claim names wide j → IsTested o w claim names wide j
   gives (Below c d) known h k =
       let as' = assumed (length o.names.individuals) (Below c d) in

@@ -15,7 +15,6 @@ use Rattle.entailment.specs.Entailment.{Entails, Follows}
 use Rattle.entailment.specs.Testers.{with_axioms_of}
 use Rattle.lemmas.proofs.Mapped.{All-from_map}
 use Rattle.lemmas.proofs.Places.{Keeps, keeps_push}
-use Rattle.normalise.specs.Growth.{Grows}
 use Rattle.normalise.specs.Roots.{KeepsNames}
 use Rattle.profile.proofs.Trees.{KeepsAll, axioms_kept, keeps_append, trees_kept}
 
@@ -78,9 +77,6 @@ module _ (known stated : Ontology) (more : Extends known stated) (w : IsOntology
   rest_there =
       let there : All (IsAxiomOf stated) (known.axioms ++ rest) = subst (All (IsAxiomOf stated)) more.axioms.1 whole.axioms in
       λ k d l. IsAxiomOf-more stated about (record { classes = omega arith; properties = omega arith; individuals = omega arith; nodes = omega arith }) _ (all_back (IsAxiomOf stated) known.axioms rest there k d l)
-
-  pub grows : Grows known about (length known.axioms)
-  grows = record { nodes = keeps_append known.nodes stated.nodes more.nodes.0 more.nodes.1; axioms = λ n x at. at; new_from = refl }
 
   pub keeps_names : KeepsNames known about
   keeps_names = record {
