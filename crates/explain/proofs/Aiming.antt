@@ -25,11 +25,6 @@ use Rattle.normal_forms.specs.declared.forms.Class2.TheVariants.{Expr}
 use Rattle.normalise.specs.Problem.{prefixes_of}
 use Rattle.number_sets.specs.Pieces.{list_at}
 
-pub goal_there : (P : Fact → Type 0) (facts : List Fact) (n : ℕ) (f : Fact) → slice_get facts n ≡ Some f → P f → IsGoal P facts (n + 1)
-goal_there P facts n f at is =
-    let counted : suc n ≡ n + 1 = omega arith in
-    (f, subst (λ k. at_number facts k ≡ Some f) counted at, is)
-
 pub goal_within : (P : Fact → Type 0) (facts : List Fact) (goal : ℕ) → IsGoal P facts goal → (0 < goal) × (goal ≤ length facts)
 goal_within P facts zero (f, at, is) = absurd (none-some f at)
 goal_within P facts (suc n) (f, at, is) = (omega arith, omega (arith, slice_get_within facts n f at))

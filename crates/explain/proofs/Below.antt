@@ -62,18 +62,6 @@ all_below s n r l birth born m h = let f = slice_get_there s.state.facts n l in 
 abbrev pub Adds : List Bool → List Bool → (ℕ → Type 0) → Type 0
 Adds marks new P = (n : ℕ) → IsMarked new n ↔ (IsMarked marks n ⊎ P n)
 
-pub adds_none : (marks : List Bool) → Adds marks marks (λ n. Contains [] n)
-adds_none marks n = (λ h. inl h, λ h. elim h [ inl k ↦ k | inr k ↦ absurd (Contains-none n k) ])
-
-pub adds_one : (marks new : List Bool) (m : ℕ) → Adds marks new (λ n. n ≡ m) → Adds marks new (λ n. Contains (m ∷ []) n)
-adds_one marks new m h n = (
-  λ k. elim ((h n).0 k) [ inl l ↦ inl l | inr e ↦ inr (subst (λ j. Contains (m ∷ []) j) (sym e) (Contains-first m [])) ],
-  λ k. elim k [
-    | inl l ↦ (h n).1 (inl l)
-    | inr c ↦ elim (Contains-cons_cases m n [] c) [ inl e ↦ (h n).1 (inr (sym e)) | inr d ↦ absurd (Contains-none n d) ]
-  ],
-)
-
 pub adds_two : (marks half new : List Bool) (l m : ℕ) → Adds marks half (λ n. n ≡ l) → Adds half new (λ n. n ≡ m) → Adds marks new (λ n. Contains (l ∷ m ∷ []) n)
 adds_two marks half new l m g h n = (
   λ k. elim ((h n).0 k) [
