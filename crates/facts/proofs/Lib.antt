@@ -4,6 +4,5 @@ pub mod Sameness
 pub mod Facts
 pub mod Filling
 pub mod Placing
-pub mod Zeros
 pub mod Chaining
 pub mod Tabling

@@ -1,5 +1,5 @@
 -- Individuals that forms make one: what is one with a third is one, in either order, and a fact of the closure is handed on to them.
-use Rattle.std.proofs.Common.{List, [], ◌∷◌, Contains, Some, inl, inr, refl}
+use Rattle.std.proofs.Common.{List, [], ◌∷◌, Contains, Some, inl, inr}
 use Rattle.lemmas.proofs.Members.{slice_get-from_Contains}
 use Rattle.axioms.specs.declared.ids.IndId.{IndId}
 use Rattle.normal_forms.specs.declared.forms.Class2.{Class2}
@@ -19,9 +19,6 @@ turned_link _ i j h = absurd h
 
 pub one_link : {forms : List Form} (form : Form) (i j : IndId) → Contains forms form → Links form i j → AreSame forms i j
 one_link form i j there link = step i form itself there link
-
-pub one_form : {forms : List Form} (a b : IndId) → Contains forms (N10 a b) → AreSame forms a b
-one_form a b there = one_link (N10 a b) a b there (inl (refl, refl))
 
 pub and_then : {forms : List Form} {i j h : IndId} → AreSame forms i j → AreSame forms j h → AreSame forms i h
 and_then p itself = p
