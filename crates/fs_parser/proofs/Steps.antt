@@ -15,7 +15,7 @@ use Rattle.fs_lexer.specs.declared.token.Token as lexer
 use Rattle.fs_lexer.specs.declared.token.Kind.TheVariants.{FullIri, ShortName, Keyword}
 use Rattle.fs_lexer.specs.declared.token.Kind.{Kind}
 use Rattle.fs_lexer.specs.Views.{token_of}
-use Rattle.fs_parser.specs.Front.{BeginsWith, IsWord, MayBeNamed}
+use Rattle.fs_parser.specs.Front.{IsWord, MayBeNamed}
 use Rattle.fs_parser.specs.Name.{Prefixes, standard_prefixes, StandForOne, IsNameOf, IsShort, IsBracketed}
 use Rattle.fs_parser.specs.Tree.{AreClosed, Tree, Trees, PlainLiteral}
 use Rattle.fs_parser.specs.View.{tokens_of, iri_of, tree_of, layer_of}
@@ -215,14 +215,6 @@ loop_none limit prefixes are (t ∷ ts) s all l so_far trees closed = absurd (om
 pub word_found : (word : List ℕ) (ts : List lexer.Token) (d : lexer.Token) → IsFirst ts d → (d.kind ≡ Keyword) × (d.text.now ≡ word)
     → IsWord word (tokens_of ts) (tokens_of (take (length ts - 1) (drop 1 ts)))
 word_found word ts d l h = record { token = token_of d; tokens_are = tokens_front ts d l; kind = h.0; text = h.1 }
-
-pub no_tokens : (word : List ℕ) (ts : List lexer.Token) → length ts < 1 → BeginsWith word (tokens_of ts) → ⊥
-no_tokens word [] l h = h
-no_tokens word (t ∷ ts) l h = absurd (omega arith)
-
-pub other_word : (word : List ℕ) (ts : List lexer.Token) (d : lexer.Token) → 1 ≤ length ts → (((get_or ts 0 d).kind ≡ Keyword) × ((get_or ts 0 d).text.now ≡ word) → ⊥) → BeginsWith word (tokens_of ts) → ⊥
-other_word word [] d l none h = h
-other_word word (t ∷ ts) d l none h = none h
 
 -- ---- a declaration
 

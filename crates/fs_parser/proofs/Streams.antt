@@ -22,11 +22,6 @@ use Rattle.fs_parser.proofs.Names.{name_of}
 use Rattle.fs_parser.proofs.Sound.{HasRead, step_reads, run_reads}
 use Rattle.fs_parser.proofs.Steps.{name_same}
 
--- ---- the header
-
-pub nothing_yet : (text : List ℕ) → BeginText text [] 0
-nothing_yet text = record { within = omega arith; reads = λ more h. h }
-
 -- ---- the trees
 
 -- between two tokens
@@ -35,10 +30,6 @@ pub record IsBetween (text : List ℕ) (start from : ℕ) (prefixes : Prefixes) 
   pub tokens : List Token
   pub reads : (more : List Token) → AreReadFrom (length text) (drop from text) more → AreReadFrom (length text) (drop start text) (tokens ++ more)
   pub has_read : HasRead 64 prefixes s tokens
-
-pub none_between : (text : List ℕ) (from : ℕ) (prefixes : Prefixes) → from ≤ length text → IsBetween text from from prefixes start
-none_between text from prefixes l =
-    record { within = l; tokens = []; reads = λ more h. h; has_read = record { before = []; last = []; frames = (refl, omega arith); pending = refl; are = refl } }
 
 pub next_between : (text : List ℕ) (at from behind : ℕ) (prefixes : Prefixes) → StandForOne prefixes → (s next : State) (t : Token) (r : Option code_iri.Iri) → IsBetween text at from prefixes s → behind ≤ length text
     → ((more : List Token) → AreReadFrom (length text) (drop behind text) more → AreReadFrom (length text) (drop from text) (t ∷ more))

@@ -14,7 +14,7 @@ use Rattle.fs_parser.specs.Rest.{IsStartOf, IsTreeAt, text_left}
 use Rattle.fs_parser.specs.View.{trees_from, iri_of}
 use Rattle.fs_parser.specs.declared.iri.Iri as code_iri
 use Rattle.fs_parser.proofs.Sound.{run_reads}
-use Rattle.fs_parser.proofs.Streams.{IsBetween, forms_are, next_between, none_between}
+use Rattle.fs_parser.proofs.Streams.{IsBetween, forms_are, next_between}
 
 -- ---- one tree
 
@@ -23,10 +23,6 @@ pub record IsWithin (text : List ℕ) (at from : ℕ) (prefixes : Prefixes) (s :
   pub between : IsBetween text at from prefixes s
   pub not_before : at ≤ from
   pub some : (s ≡ start) ⊎ (at < from)
-
-pub nothing_within : (text : List ℕ) (at : ℕ) (prefixes : Prefixes) (s : State) → at ≤ length text → s ≡ start → IsWithin text at at prefixes s
-nothing_within text at prefixes s l e =
-    record { between = subst (IsBetween text at at prefixes) (sym e) (none_between text at prefixes l); not_before = omega arith; some = inl e }
 
 pub next_within : (text : List ℕ) (at from behind : ℕ) (prefixes : Prefixes) → StandForOne prefixes → (s next last : State) (t : Token) (r : Option code_iri.Iri) → IsWithin text at from prefixes s → behind ≤ length text
     → ((more : List Token) → AreReadFrom (length text) (drop behind text) more → AreReadFrom (length text) (drop from text) (t ∷ more))
