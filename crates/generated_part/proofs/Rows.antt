@@ -3,7 +3,6 @@ use Rattle.std.proofs.Common.{◌≡◌, ℕ, ◌+◌, ◌<◌, ◌≤◌, inl, 
 use Rattle.std.proofs.lemmas.Bool.{both_ways, cases_eq}
 use Rattle.std.proofs.lemmas.List.Elements.{Contains-append_left, Contains-push, Contains-push_cases, All-contains}
 use Rattle.std.proofs.lemmas.Option.{get_or_from_slice_get, slice_get_within}
-use Rattle.lemmas.proofs.Members.{Contains-none}
 use Rattle.axioms.specs.Ontology.{Ontology}
 use Rattle.axioms.specs.WellFormedness.{IsOntology}
 use Rattle.axioms.specs.declared.ids.ClassId.{ClassId}
@@ -14,14 +13,11 @@ use Rattle.interpretation_spec.proofs.Names.{stands}
 use Rattle.listed_model.proofs.Members.{holds_from_Contains, Contains_from_holds}
 use Rattle.number_sets.specs.Members.{has}
 use Rattle.number_sets.specs.Pieces.{list_at}
-use Rattle.number_sets.proofs.Members.{one_more_taken, none_taken, all_taken}
+use Rattle.number_sets.proofs.Members.{one_more_taken, all_taken}
 use Rattle.generated_part.specs.Elements.{class_id, prop_id, AddsTargets, AreClassesAt, ArePairsAt, IsByElement}
 use Rattle.generated_part.specs.declared.by_element.ByElement.{ByElement}
 
 -- ---- classes
-
-pub no_classes : (i : NumberedInterpretation) (x : ℕ) → AreClassesAt i 2 x []
-no_classes i x c = (λ h. absurd (Contains-none c h), λ h. absurd (omega (arith, h.0, h.1)))
 
 module _ (i : NumberedInterpretation) (n x : ℕ) (found : List ClassId) (was : AreClassesAt i n x found) where
   pub one_class : 2 ≤ n → has (members_of i n) x ≡ true → AreClassesAt i (n + 1) x (found ++ class_id n ∷ [])
@@ -47,9 +43,6 @@ module _ (i : NumberedInterpretation) (n x : ℕ) (found : List ClassId) (was : 
 
 -- ---- pairs
 
-pub no_target : (old : List (PropId × ℕ)) (p : PropId) (ts : List ℕ) → AddsTargets old p (take 0 ts) old
-no_target old p ts r y = (λ h. inl h, λ h. elim h [ inl c ↦ c | inr q ↦ absurd (none_taken ts y q.1) ])
-
 pub one_target : (old : List (PropId × ℕ)) (p : PropId) (ts : List ℕ) (k d : ℕ) (now : List (PropId × ℕ)) → k < length ts → AddsTargets old p (take k ts) now
     → AddsTargets old p (take (k + 1) ts) (now ++ (p, get_or ts k d) ∷ [])
 one_target old p ts k d now low was r y =
@@ -73,9 +66,6 @@ all_targets old p ts k now end was r y = (
   λ h. elim ((was r y).0 h) [ inl o ↦ inl o | inr q ↦ inr (q.0, (all_taken ts k y end).0 q.1) ],
   λ h. (was r y).1 (elim h [ inl o ↦ inl o | inr q ↦ inr (q.0, (all_taken ts k y end).1 q.1) ]),
 )
-
-pub no_pairs : (i : NumberedInterpretation) (x : ℕ) → ArePairsAt i 0 x []
-no_pairs i x r y = (λ h. absurd (Contains-none (r, y) h), λ h. absurd (omega (arith, h.0)))
 
 pub one_property : (i : NumberedInterpretation) (n x : ℕ) (old now : List (PropId × ℕ)) → ArePairsAt i n x old → AddsTargets old (prop_id n) (targets_of i n x) now → ArePairsAt i (n + 1) x now
 one_property i n x old now was adds r y = (
