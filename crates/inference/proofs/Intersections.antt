@@ -17,7 +17,6 @@ use Rattle.inference.specs.Completeness.{Drawn, IsDrawnIn, MeetsOperands, MeetEa
 use Rattle.inference.proofs.Drawing.{drawn_at_still}
 use Rattle.inference.proofs.Giving.{first_operand, second_operand}
 use Rattle.inference.proofs.Growth.{there_still}
-use Rattle.inference.proofs.Lists.{one_value}
 
 -- a form that gives something from two classes is their intersection, in one context
 pub intersection : (k : Problem) (form : Form) (a b : Class2) (x y : Context) (h : Fact) → FromTwo k form (In a x) (In b y) h → (c : Class2) × (form ≡ N2 a b c) × (x ≡ y)
@@ -32,19 +31,6 @@ intersection k (N8 _ _) a b x y h w = absurd w
 intersection k (N9 _ _ _) a b x y h w = absurd w
 intersection k (N10 _ _) a b x y h w = absurd w
 intersection k (N12 _ _ _) a b x y h w = absurd w
-
-same_first : (a b c p q r : Class2) → N2 a b c ≡ N2 p q r → a ≡ p
-same_first a b c p q r e = cc
-
-same_second : (a b c p q r : Class2) → N2 a b c ≡ N2 p q r → b ≡ q
-same_second a b c p q r e = cc
-
--- where not both classes of the intersection are in the context there is nothing to draw
-pub not_both : (k : Problem) (old new : List Fact) (x : Context) (n : ℕ) (p q r : Class2) → slice_get k.forms n ≡ Some (N2 p q r) → (Contains old (In p x) → Contains old (In q x) → ⊥) → IsDrawnIn k old x new n
-not_both k old new x n p q r is none a b ina inb form at h w =
-    let i = intersection k form a b x x h w in
-    let same : N2 a b i.0 ≡ N2 p q r = one_value (slice_get k.forms n) _ _ (subst (λ f. slice_get k.forms n ≡ Some f) i.1 at) is in
-    absurd (none (subst (λ c. Contains old (In c x)) (same_first a b i.0 p q r same) ina) (subst (λ c. Contains old (In c x)) (same_second a b i.0 p q r same) inb))
 
 -- what is there stays, and what was there earlier is asked for alone
 pub drawn_in_still : {k : Problem} {most : ℕ} {a b : Derived} → Grows k most a b → (old : List Fact) (x : Context) (n : ℕ) → IsDrawnIn k old x a.facts n → IsDrawnIn k old x b.facts n

@@ -1,5 +1,5 @@
 -- Kinds of facts that are passed over: what a set of marks tells of them.
-use Rattle.std.proofs.Common.{◌≡◌, ℕ, zero, suc, ◌+◌, ◌-◌, ◌<◌, ◌≤◌, ⊎_elim, Bool, true, false, List, [], ◌∷◌, length, drop, slice_get, Some, Contains, refl, sym, subst, arith}
+use Rattle.std.proofs.Common.{◌≡◌, ℕ, zero, suc, ◌+◌, ◌-◌, ◌<◌, ◌≤◌, ⊎_elim, Bool, false, List, [], ◌∷◌, length, drop, slice_get, Some, Contains, sym, subst, arith}
 use Rattle.std.specs.Prelude.{slice_range}
 use Rattle.std.proofs.lemmas.Bool.{cases_lt}
 use Rattle.std.proofs.lemmas.Option.{none-some}
@@ -19,11 +19,6 @@ lacking_passed kinds p low lacks (Edge x q y) is = subst (IsLacking kinds.proper
 
 pub lacking_here : (kinds : Kinds) (row : List Bool) (p : ℕ) → kinds.properties ≡ row → p < 65534 → p < length row → has row p ≡ false → IsPassedMark kinds p
 lacking_here kinds row p is low within lacks = lacking_passed kinds p low (subst (λ (r : List Bool). IsLacking r (Property (record { 0 = p }))) (sym is) (within, lacks))
-
--- the mark of what puts something into a class
-pub classes_passed : (kinds : Kinds) → kinds.classes ≡ true → IsPassedMark kinds 65534
-classes_passed kinds all (In a x) is = all
-classes_passed kinds all (Edge x q y) is = absurd (is.1 refl)
 
 -- where such marks stand, such facts have their numbers
 pub facts_passed : (kinds : Kinds) (facts : List Fact) (marks : List ℕ) (from to : ℕ) → AreMarks facts marks → ArePassedAt kinds marks from to → ArePassed kinds facts from to
