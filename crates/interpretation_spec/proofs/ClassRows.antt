@@ -95,13 +95,6 @@ module _ (rows : List (List Bool)) (places : List ℕ) (was : ArePlaced rows pla
   pub row_at : (c : ℕ) → c < length places → get_or (rows_at rows places) c [] ≡ get_or rows (place c) []
   row_at c l = get_or-map (λ place. get_or rows place []) places c 0 [] l
 
-  -- a class without elements has the common row
-  pub is_common : (c : ℕ) → 0 < c → c < length places → has_some (get_or (rows_at rows places) c []) ≡ false → place c ≡ 0
-  is_common c l within without = elim (cases_lt 0 (place c)) [
-    | inl used ↦ absurd (true≢false (sym (was.used c l used) ∙ ap has_some (sym (row_at c within)) ∙ without))
-    | inr none ↦ omega arith
-  ]
-
   -- and none has an element in it
   pub has_none : (c : ℕ) → c < length places → place c ≡ 0 → has_some (get_or (rows_at rows places) c []) ≡ false
   has_none c l is = ap has_some (row_at c l ∙ ap (λ (p : ℕ). get_or rows p []) is) ∙ was.common
