@@ -1,9 +1,8 @@
 -- What lists and rows say of axioms, shape by shape.
-use Rattle.std.proofs.Common.{◌≡◌, ◌↔◌, ◌⊎◌, inl, inr, ℕ, ◌<◌, List, [], ◌∷◌, true, length, map, get_or, All, AllPairs, refl, sym, ap, ap₂, ◌∙◌, subst, subst₂, arith, true≢false}
+use Rattle.std.proofs.Common.{◌≡◌, ◌↔◌, ◌⊎◌, inl, inr, ℕ, ◌<◌, List, [], ◌∷◌, true, length, map, get_or, All, AllPairs, refl, sym, ap₂, ◌∙◌, subst, subst₂, arith, true≢false}
 use Rattle.std.specs.Cmp.{both_ways}
 use Rattle.std.proofs.lemmas.Bool.{cases_order}
 use Rattle.std.proofs.lemmas.List.Elements.{All-head, All-tail, All-contains}
-use Rattle.std.proofs.lemmas.List.Kept.{AllPairs-from_increasing}
 use Rattle.std.proofs.lemmas.Option.{slice_get_within, get_or_from_slice_get}
 use Rattle.lemmas.proofs.Members.{Contains-first, Contains-later, Contains-cons_cases}
 use Rattle.lemmas.proofs.Pairs.{AllPairs-head, AllPairs-tail, AllPairs-map, AllPairs-from_map}
@@ -16,7 +15,7 @@ use Rattle.interpretation_spec.specs.Interpretation.{IsIn, IsWithin, IsSame, IsA
 use Rattle.listed_model.specs.Listing.{HaveOneElement, HaveTwoElements, element_of, targets_of}
 use Rattle.listed_model.specs.Interpretations.{listed_interpretation}
 use Rattle.listed_model.specs.Members.{holds}
-use Rattle.listed_model.specs.Extensions.{IsElement, IsExtension}
+use Rattle.listed_model.specs.Extensions.{IsElement}
 use Rattle.listed_model.specs.Rows.{HasListedPath}
 use Rattle.listed_model.proofs.Members.{holds_from_Contains, Contains_from_holds}
 use Rattle.listed_model.proofs.Interpreted.{property_is, individual_is, size_is}
@@ -56,17 +55,6 @@ same_members (x ∷ xs) (y ∷ ys) p q h =
       | inr (inl l) ↦ elim (holds_cases y x ys ((h x).0 (first_holds x xs))) [ inl e ↦ absurd (omega arith) | inr m ↦ (let k = above_head y ys q x m in absurd (omega arith)) ]
       | inr (inr l) ↦ elim (holds_cases x y xs ((h y).1 (first_holds y ys))) [ inl e ↦ absurd (omega arith) | inr m ↦ (let k = above_head x xs p y m in absurd (omega arith)) ]
     ]
-
--- two ascending lists of elements are the same where the expressions have the same elements
-pub same_lists : (o : Ontology) (l : Listed) (c d : ℕ) (xs ys : List ℕ) → IsExtension o l c xs → IsExtension o l d ys → (xs ≡ ys) ↔ ((x : ℕ) → IsElement o l c x ↔ IsElement o l d x)
-same_lists o l c d xs ys p q = (
-  λ e x. (
-    λ h. (q.members x).0 (ap (λ zs. holds zs x) (sym e) ∙ (p.members x).1 h),
-    λ h. (p.members x).0 (ap (λ zs. holds zs x) e ∙ (q.members x).1 h),
-  ),
-  λ h. same_members xs ys (AllPairs-from_increasing xs p.ascending) (AllPairs-from_increasing ys q.ascending)
-      (λ z. (λ t. (q.members z).1 ((h z).0 ((p.members z).0 t)), λ t. (p.members z).1 ((h z).1 ((q.members z).0 t)))),
-)
 
 -- what is said of each two numbers is said of what they stand for
 pairs_said : {B : Type 0} (P : ℕ → Type 0) (R : ℕ → ℕ → Type 0) (S : B → B → Type 0) (f : ℕ → B) → ((c d : ℕ) → P c → P d → R c d ↔ S (f c) (f d)) → (xs : List ℕ) → All P xs → AllPairs R xs ↔ AllPairs S (map f xs)
