@@ -50,9 +50,6 @@ span_there number table spans members kept (Some n) list is s e = record {
 
 module _ {T : Type 0} (number : T → ℕ) (table : Table) (spans : List Span) (members : List T) (kept : IsKept number table spans members) (shorter : Option ℕ) (list : List ℕ) (many : 2 ≤ length list)
     (is : IsShorter (map (list_at number members) spans) shorter list) where
-  lists : List (List ℕ)
-  lists = map (list_at number members) spans
-
   start : Start
   start = start_in shorter list
 

@@ -1,5 +1,5 @@
 -- Marks and what is noted of them: none, one, those of two steps, those of a list; and all that marks reach.
-use Rattle.std.proofs.Common.{◌≡◌, ℕ, zero, suc, ◌+◌, ◌<◌, ◌≤◌, ◌⊎◌, inl, inr, Bool, true, false, List, [], ◌∷◌, ◌++◌, length, set, slice_get, Some, None, Contains, refl, sym, ap, ◌∙◌, subst, arith, length-set, length-append}
+use Rattle.std.proofs.Common.{◌≡◌, ℕ, zero, suc, ◌+◌, ◌<◌, ◌≤◌, ◌⊎◌, inl, inr, Bool, true, false, List, [], ◌∷◌, ◌++◌, length, set, slice_get, Some, Contains, refl, sym, ap, ◌∙◌, subst, arith, length-set, length-append}
 use Rattle.std.proofs.lemmas.Bool.{cases_eq}
 use Rattle.std.proofs.lemmas.Option.{none-some, same_Some, slice_get_within}
 use Rattle.std.proofs.lemmas.List.Elements.{All-contains, Contains-push_cases}
@@ -180,9 +180,6 @@ pub part_smaller : (o : Ontology) → IsOntology o → (d : ℕ) (node : Node) (
 part_smaller o ok d (Class c) e g p = absurd p
 part_smaller o ok d (And ds) e g p = All-contains (λ x. x < d) ds e (ok.nodes d (And ds) g).within p
 part_smaller o ok d (Exists r c) e g p = let l : c < d = (ok.nodes d (Exists r c) g).1 in omega (arith, p)
-
-pub below_none : (m : Marked) (nodes : List Node) (d : ℕ) → slice_get nodes d ≡ None → MarksMore m m (IsPartOf nodes d)
-below_none m nodes d none = more_none m (IsPartOf nodes d) (λ e l h. none-some h.0 (sym none ∙ h.1))
 
 -- the parts are marked of what is noted before the place
 pub record IsClosing (nodes : List Node) (old now : Marked) (next : ℕ) : Type 0 where

@@ -1,7 +1,7 @@
 -- The expressions of axioms stand in the forms that these give.
 use Rattle.std.proofs.Common.{◌≡◌, ℕ, zero, suc, ◌+◌, ◌<◌, ◌≤◌, ◌⊎◌, inl, inr, Bool, List, [], ◌∷◌, ◌++◌, length, slice_get, Some, Contains, refl, sym, ap, ◌∙◌, subst, arith}
 use Rattle.std.proofs.lemmas.Bool.{cases_order}
-use Rattle.std.proofs.lemmas.Option.{none-some, slice_get_within}
+use Rattle.std.proofs.lemmas.Option.{slice_get_within}
 use Rattle.std.proofs.lemmas.List.Elements.{All-contains}
 use Rattle.lemmas.proofs.Choices.{one_value}
 use Rattle.lemmas.proofs.Members.{Contains-from_slice_get, slice_get-from_Contains}
@@ -242,6 +242,3 @@ module _ (p : Ontology) (from : ℕ) (v : Listing) (right left : List Bool) (u :
       | inr i ↦ (let two = made_classes i.0 c d (xs, i.1, at) in (omega (arith, new, two.0), omega (arith, new, two.1)))
     ];
   }
-
-pub none_named : AreNamedBelow 0 [] []
-none_named = record { forms = λ n entry at. absurd (none-some entry at); classes = λ l c d h. absurd (none-some h.0 h.1) }
