@@ -12,7 +12,7 @@ use Rattle.axioms.specs.declared.fault.BuildFault.{BuildFault}
 use Rattle.axioms.specs.declared.fault.BuildFault.TheVariants.{TooManyNames, Memory}
 use Rattle.axioms.specs.declared.ids.ExprId.{ExprId}
 use Rattle.axioms.specs.Numbering.{parts, properties_in}
-use Rattle.fs_parser.specs.Tree.{Tree, Trees, Form}
+use Rattle.fs_parser.specs.Tree.{Tree, Form}
 use Rattle.fs_parser.specs.View.{tree_of, trees_of}
 use Rattle.fs_parser.specs.declared.tree.Tree as code
 use Rattle.shapes.proofs.Stating.{IsNoForm}
@@ -27,13 +27,6 @@ tree_class t = class_of (tree_of t)
 pub classes_are : (ts : List code.Tree) → classes_of (trees_of ts) ≡ map tree_class ts
 classes_are [] = refl
 classes_are (t ∷ ts) = ap (λ cs. tree_class t ∷ cs) (classes_are ts)
-
-pub count_is : (ts : Trees) (us : List code.Tree) → trees_of us ≡ ts → length (classes_of ts) ≡ length us
-count_is ts us is = ap (λ xs. length (classes_of xs)) (sym is) ∙ long us
-  where
-    long : (us : List code.Tree) → length (classes_of (trees_of us)) ≡ length us
-    long [] = refl
-    long (u ∷ us) = ap suc (long us)
 
 -- a tree at a place is a class expression where all are
 pub class_at : (ts : List code.Tree) (n : ℕ) (t : code.Tree) → AreClassTrees (trees_of ts) → n < length ts → t ≡ get_or ts n t → IsClassTree (tree_of t)

@@ -29,9 +29,6 @@ pub record AreTakenSoFar (start left : TextLeft) (old now : Taken) : Type 0 wher
   pub left_are : (more : List Tree) → AreLeft left more → AreLeft start (trees ++ more)
   pub taken : AreTakenBehind trees old now
 
-pub none_so_far : (left : TextLeft) (old : Taken) → AreTakenSoFar left left old old
-none_so_far left old = record { trees = []; left_are = λ more h. h; taken = λ start before h. subst (λ (ts : List Tree). AreTaken start ts old) (sym (append-nil before)) h }
-
 pub one_more_taken : (start left next : TextLeft) (old now new : Taken) (tree : Tree) → AreTakenSoFar start left old now → IsFirst left tree next
     → AreTakenBehind (tree ∷ []) now new → AreTakenSoFar start next old new
 one_more_taken start left next old now new tree h first more =

@@ -19,7 +19,6 @@ use Rattle.profile.specs.declared.fault.DocumentFault.TheVariants as faults
 use Rattle.profile.specs.Documents.{AreTextOf, IsTaken, OpensAs, ReadsAs}
 use Rattle.profile.specs.Reading.{AreReadAs}
 use Rattle.profile.specs.Statements.{statements}
-use Rattle.fs_lexer.specs.declared.token.LexFault.TheVariants as lexing
 use Rattle.profile.specs.Faults.{AreNoDocument, IsOfForms, OpensKnown, ReadsKnown, Refuses, RefusesKnown, of_parsing}
 use Rattle.profile.proofs.Bounds.{axioms_take_bytes}
 use Rattle.profile.proofs.Sayable.{read_sayable}

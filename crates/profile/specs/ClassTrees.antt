@@ -12,10 +12,6 @@ abbrev pub IsOneOf : Bool → Type 0 → Type 0 → Type 0
 IsOneOf true P Q = P
 IsOneOf false P Q = Q
 
-abbrev pub IsName : Tree → Type 0
-IsName (Name at iri) = Unit {0}
-IsName _ = ⊥
-
 -- two or more names, which are different
 pub record AreManyDistinctNames (trees : Trees) : Type 0 where
   pub many : 2 ≤ length (iris_of trees)
