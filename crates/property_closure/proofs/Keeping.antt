@@ -15,16 +15,13 @@ use Rattle.number_sets.specs.Members.{has}
 use Rattle.number_sets.specs.Pieces.{list_at}
 use Rattle.property_closure.specs.declared.chains.Chains.{Chains}
 use Rattle.property_closure.specs.declared.related.Related.{Related}
-use Rattle.property_closure.specs.Relations.{as_id, as_property, Tells, ArePlainWithin, AreReflexiveWithin}
+use Rattle.property_closure.specs.Relations.{as_id, as_property, Tells, AreReflexiveWithin}
 use Rattle.property_closure.specs.Chains.{AreChains, AreChainsWithin, chains_at}
 use Rattle.property_closure.specs.Growth.{AreSupers, lists_of}
 use Rattle.property_closure.specs.PropertyClosures.{IsRelated, IsSame}
 use Rattle.property_closure.proofs.Reflexives.{number_of}
 
 -- ---- what forms name
-
-pub plain_within : (n m : ℕ) (forms : List Form) → All (IsPropertyFormOf n m) forms → ArePlainWithin n forms
-plain_within n m forms all r s c = All-contains (IsPropertyFormOf n m) forms (N5 (as_id r) (as_id s)) all c
 
 pub reflexive_within : (n m : ℕ) (forms : List Form) → All (IsPropertyFormOf n m) forms → AreReflexiveWithin n forms
 reflexive_within n m forms all r c = All-contains (IsPropertyFormOf n m) forms (N7 (as_id r)) all c
