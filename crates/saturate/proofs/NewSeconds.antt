@@ -12,7 +12,7 @@ use Rattle.facts.specs.declared.contexts.Fact.{Fact}
 use Rattle.facts.specs.declared.contexts.Fact.TheVariants.{Edge}
 use Rattle.facts.specs.Closure.{Problem}
 use Rattle.indexes.specs.declared.index.Index.{Index}
-use Rattle.indexes.specs.Contexts.{at_context, AddsAt, IsSameAt}
+use Rattle.indexes.specs.Contexts.{at_context, AddsAt}
 use Rattle.indexes.specs.FactIndex.{IsFrom, IsIn, IsInto, IsSameButForSeconds, ListsIn}
 use Rattle.indexes.specs.FormsUnderKeys.{IsUnder}
 use Rattle.indexes.specs.Keys.{by_end, property_key}
@@ -62,13 +62,6 @@ one_second facts x p y n at others adds = record {
   others = others;
   kept = λ z i c. (adds z i).1 (inl c);
   only = λ z i c. ⊎_elim (λ before. inl before) (λ w. inr (Edge x p y, subst (λ (j : ℕ). slice_get facts j ≡ Some (Edge x p y)) (sym w.1) at, sym w.0)) ((adds z i).0 c);
-}
-
-pub no_second : {old new : Index} (facts : List Fact) → IsSameButForSeconds old new → IsSameAt old.second_premises new.second_premises → ListsMoreSeconds facts old new
-no_second facts others same = record {
-  others = others;
-  kept = λ x n c. rw (same x) c;
-  only = λ x n c. inl (rw (same x) at c);
 }
 
 -- the edge that is read is that of its number

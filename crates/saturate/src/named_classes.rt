@@ -1,6 +1,5 @@
 //! The classes that forms and lists of disjoint classes name.
 ghost use Rattle.normal_forms.specs.declared.forms.Class2.{Class2 as AClass};
-ghost use Rattle.normal_forms.specs.declared.forms.Class2.TheVariants as the_classes;
 ghost use Rattle.saturate.specs.Naming.{ArePut, IsOfList, IsOfLists};
 ghost use Rattle.saturate.specs.Requests.{AreNamed, HasForm, NamesClass};
 ghost use Rattle.std.specs.Prelude.{◌≡◌, ◌↔◌, IfOk, Some};
