@@ -1,5 +1,5 @@
 -- What a session says of a text of axioms.
-use Rattle.std.proofs.Common.{◌≡◌, ◌↔◌, ◌++◌, Bool, true, ℕ, List, Result, Ok, Err, IfOk, IfErr, OnOk}
+use Rattle.std.proofs.Common.{◌≡◌, ◌↔◌, ◌++◌, Bool, true, ℕ, List, Result, Ok, Err, IfOk, OnOk}
 use Rattle.axioms.specs.Axiom.{Axiom}
 use Rattle.axioms.specs.Ontology.{Ontology, axiom_trees}
 use Rattle.engine.specs.Saturations.{IsFinished}
@@ -7,10 +7,9 @@ use Rattle.entailment.specs.Entailment.{Entails}
 use Rattle.entailment.specs.Testers.{IsWithinLimit}
 use Rattle.profile.specs.AddedTexts.{IsAddedText}
 use Rattle.session.specs.Additions.{IsWithin}
-use Rattle.session.specs.Entailments.{IsEntailment, IsEntailmentRefusal, IsUntoldOf}
+use Rattle.session.specs.Entailments.{IsEntailment}
 use Rattle.session.specs.Sessions.{Opened}
 use Rattle.session.specs.declared.entails_fault.EntailsFault.{EntailsFault}
-use Rattle.session.specs.declared.entails_fault.EntailsFault.TheVariants.{Unfinished, Statements, UnknownName, TooManyNames, Limit, Memory}
 
 module _ (s : Opened) (text : List ℕ) (new : Ontology) (finished : IsFinished s.saturation) (within : IsWithin s text) (is : IsAddedText s.version s.prefixes text s.ontology new) where
   pub entailment : (r : Result Bool EntailsFault) → OnOk r (new.names ≡ s.ontology.names)
@@ -24,15 +23,3 @@ module _ (s : Opened) (text : List ℕ) (new : Ontology) (finished : IsFinished 
     few = few;
   }
   entailment (Err fault) known exact most few = tt
-
-  untold : (fault : EntailsFault) (most : ℕ) → IsUntoldOf s.ontology new most fault → IsEntailmentRefusal s text most fault
-  untold Unfinished most h = absurd h
-  untold (Statements fault) most h = absurd h
-  untold (UnknownName name) most h = (finished, (within, (new, is, h)))
-  untold TooManyNames most h = (finished, (within, (new, is, h)))
-  untold Limit most h = (finished, (within, (new, is, h)))
-  untold Memory most h = (finished, (within, (new, is, h)))
-
-  pub refusal : (r : Result Bool EntailsFault) (most : ℕ) → IfErr r (IsUntoldOf s.ontology new most) → IfErr r (IsEntailmentRefusal s text most)
-  refusal (Ok b) most h = tt
-  refusal (Err fault) most h = untold fault most h

@@ -1,5 +1,5 @@
 -- What is said of an expression that was read, and of the ontology that has grown by it.
-use Rattle.std.proofs.Common.{◌≡◌, ◌<◌, ℕ, List, [], ◌∷◌, Option, length, refl, sym, ap, subst, arith}
+use Rattle.std.proofs.Common.{◌≡◌, ◌<◌, ℕ, List, [], ◌∷◌, Option, length, refl, ap, subst, arith}
 use Rattle.std.specs.Option.{unwrap_or}
 use Rattle.std.proofs.lemmas.Option.{slice_get_within}
 use Rattle.answers.specs.Names.{AreThose}
@@ -10,10 +10,6 @@ use Rattle.axioms.specs.Ontology.{Names, Ontology, axiom_trees, expression, tree
 use Rattle.engine.specs.Saturations.{IsFinished}
 use Rattle.fs_parser.specs.Name.{Prefixes}
 use Rattle.interpretation_spec.specs.Interpretation.{IsBelow, IsMember}
-use Rattle.normalise.specs.Growth.{Grows}
-use Rattle.normalise.specs.Roots.{KeepsNames}
-use Rattle.normalise.specs.View.{Keeps}
-use Rattle.profile.proofs.Trees.{keeps_append}
 use Rattle.profile.specs.AddedTexts.{IsReadExpression}
 use Rattle.profile.specs.Statements.{class_of}
 use Rattle.program.specs.declared.version.Version.{Version}
@@ -41,22 +37,6 @@ module _ (o p : Ontology) (c d : ClassExpression) (found : NamesFound) (names : 
 -- ---- an expression that was read
 
 module _ (version : Version) (prefixes : Prefixes) (text : List ℕ) (old new : Ontology) (e : ℕ) (is : IsReadExpression version prefixes text old new e) where
-  -- expressions and axioms keep their numbers
-  pub grows : Grows old new (length old.axioms)
-  grows =
-      let kept = is.added.adds.kept in record {
-        nodes = keeps_append old.nodes new.nodes kept.nodes.0 kept.nodes.1;
-        axioms = keeps_append old.axioms new.axioms kept.axioms.0 kept.axioms.1;
-        new_from = refl;
-      }
-
-  -- names are the same
-  pub keeps_names : KeepsNames old new
-  keeps_names =
-      let P : Names → Type 0 = λ names. Keeps old.names.classes names.classes × Keeps old.names.individuals names.individuals in
-      let kept : P new.names = subst P (sym is.added.names) (λ n x at. at, λ n x at. at) in
-      record { classes = kept.0; individuals = kept.1 }
-
   -- the expression is there
   pub is_there : e < length new.nodes
   is_there = omega (arith, length_trees new, slice_get_within (trees new) e (class_of is.tree) is.added.at)
