@@ -1,6 +1,6 @@
 -- Lists of trees, one tree after the other.
 use Rattle.std.proofs.Common.{◌≡◌, ℕ, suc, ◌+◌, ◌-◌, ◌<◌, ◌≤◌, Bool, true, false, ◌&&◌, ◌||◌, not, List, [], ◌∷◌, ◌++◌, map, take, drop, length, get_or, refl, sym, ap, ap₂, ◌∙◌, arith, add-one, Option, Some, if◌then◌else◌}
-use Rattle.std.proofs.lemmas.List.{drop_more, get_or-drop, length-drop, map-append, take_more, drop_all, append_assoc}
+use Rattle.std.proofs.lemmas.List.{drop_more, get_or-drop, length-drop, map-append, take_more, append_assoc}
 use Rattle.std.proofs.Math.Bool.{and-false}
 use Rattle.std.proofs.lemmas.Bool.{not-true, not-false}
 use Rattle.std.proofs.lemmas.List.Folds.{list_any-append}
@@ -22,9 +22,6 @@ use Rattle.shapes.specs.declared.expected.Expected.TheVariants.{Annotation}
 -- the trees from the place on
 pub left_at : (ts : List code.Tree) (i : ℕ) (t : code.Tree) → i < length ts → t ≡ get_or ts i t → trees_of (drop i ts) ≡ Then (tree_of t) (trees_of (drop (i + 1) ts))
 left_at ts i t h e = ap trees_of (drop_more ts i t h ∙ ap (λ (s : code.Tree). s ∷ drop (i + 1) ts) (sym e))
-
-pub none_left : (ts : List code.Tree) (i : ℕ) → length ts ≤ i → trees_of (drop i ts) ≡ Empty
-none_left ts i h = ap trees_of (drop_all i ts h)
 
 -- ---- one more piece of a list of faults
 

@@ -2,19 +2,18 @@
 use Rattle.std.proofs.Common.{◌≡◌, ℕ, Bool, true, false, Bor, Vec, Global, List, [], ◌∷◌, Some, None, length, ◌<◌, ◌≤◌, take, drop, ◌-◌, refl, sym, ap, ◌∙◌, subst, arith, nat_lt, ◌==◌}
 use Rattle.std.proofs.lemmas.List.{length-drop, take_all}
 use Rattle.std.proofs.lemmas.Bool.{eqb-true, le-ltb, lt-ltb}
-use Rattle.fs_parser.specs.Tree.{Tree, Trees, Form}
+use Rattle.fs_parser.specs.Tree.{Tree, Form}
 use Rattle.fs_parser.specs.View.{layer_of, tree_of, trees_of}
 use Rattle.fs_parser.specs.declared.tree.Tree as code
 use Rattle.fs_parser.specs.declared.tree.Tree.TheFolds.{fold-roll-Tree, fold_out-Tree}
 use Rattle.fs_parser.specs.declared.tree.Tree.TheVariants.{rolls-Form}
 use Rattle.fs_parser.specs.declared.tree.Tree.TheOpen as layer
 use Rattle.shapes.specs.declared.form.Form as shapes
-use Rattle.shapes.specs.declared.form.Form.TheVariants as forms
 use Rattle.shapes.specs.declared.expected.Expected.TheVariants.{Axiom}
 use Rattle.shapes.specs.Faults.{behind_annotations, count_of}
 use Rattle.shapes.specs.Shapes.{form_of}
 use Rattle.program.specs.declared.version.Version.{Version}
-use Rattle.shapes.specs.TreeStatements.{axiom_by, stated_by, statement_in}
+use Rattle.shapes.specs.TreeStatements.{axiom_by, statement_in}
 
 -- ---- how many
 
@@ -34,12 +33,6 @@ many_there ts many = lt-ltb 1 (count_of (trees_of ts)) (omega (arith, count_is t
 
 pub not_many : (ts : List code.Tree) → length ts ≤ 1 → nat_lt 1 (count_of (trees_of ts)) ≡ false
 not_many ts few = le-ltb 1 (count_of (trees_of ts)) (omega (arith, count_is ts))
-
--- ---- declarations
-
-pub no_declaration : (version : Version) (f : shapes.Form) (ts : Trees) → (f ≡ forms.Declaration → ⊥) → stated_by f ts ≡ axiom_by version (Some f) ts
-no_declaration version forms.Declaration ts h = absurd (h refl)
-no_declaration version _ ts h = refl
 
 -- ---- trees of the code
 
