@@ -41,9 +41,6 @@ pub record HasRead (old now : List ℕ) (before after : SourceState) : Type 0 wh
   pub none : Contains now 10 → ⊥
   pub unfailed : after.failures ≡ before.failures
 
-pub nothing_read : (bytes : List ℕ) (source : SourceState) → (Contains bytes 10 → ⊥) → HasRead bytes bytes source source
-nothing_read bytes source h = record { read = []; given = gives_none source; in_order = append-nil bytes; none = h; unfailed = refl }
-
 pub more_read : (old now more : List ℕ) (before after new : SourceState) → HasRead old now before after → Gives after new more → (Contains more 10 → ⊥) → new.failures ≡ after.failures
     → HasRead old (now ++ more) before new
 more_read old now more before after new h k none kept = record {
