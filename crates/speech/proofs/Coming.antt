@@ -76,9 +76,6 @@ no_feed front e = omega (arith, length-append front (10 ∷ []), ap length e)
 pub record IsPart (size : ℕ) (payload : List ℕ) : Type 0 where
   pub last : HasEnded size payload → length payload ≡ size + 1
 
-pub nothing_yet : (size : ℕ) → IsPart size []
-nothing_yet size = record { last = λ e. absurd (omega (arith, slice_get_within [] size 10 e)) }
-
 get_behind : (xs ys : List ℕ) (k x : ℕ) → length xs ≤ k → slice_get (xs ++ ys) k ≡ Some x → slice_get ys (k - length xs) ≡ Some x
 get_behind xs ys k x low e =
     let below : k < length (xs ++ ys) = slice_get_within (xs ++ ys) k x e in
