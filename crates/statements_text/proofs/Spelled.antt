@@ -65,11 +65,6 @@ laid_line_feed at rest (t ∷ ts) s =
 laid_nothing : (at : ℕ) → IsLaid at [] []
 laid_nothing at rest more s = let size : at + 0 ≡ at = omega arith in subst (λ n. SpellsFrom n rest more) size s
 
-closes : (iri : List ℕ) → ends_with_word (iri ++ codes ">") ≡ false
-closes [] = refl
-closes (b ∷ []) = refl
-closes (b ∷ c ∷ iri) = closes (c ∷ iri)
-
 -- a byte before some bytes changes not how they end
 ends_later : (b : ℕ) (iri : List ℕ) → ends_with_word (b ∷ (iri ++ codes ">")) ≡ false
 ends_later b [] = refl
