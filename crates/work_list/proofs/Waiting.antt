@@ -62,10 +62,6 @@ popped ls ms c fact low is last =
     (subst (λ (xs : List (List ℕ)). Adds (item_of c fact) (items_in (set ls c (get_or ms c []))) (items_in xs)) old
     (added_from 0 c ls c fact (get_or ms c []) (omega arith) low))
 
--- where none is taken out, nothing changes
-pub unchanged : (ls ms : List (List ℕ)) (c : ℕ) → ms ≡ set ls c (get_or ms c []) → get_or ls c [] ≡ get_or ms c [] → ms ≡ ls
-unchanged ls ms c is last = is ∙ ap (set ls c) (sym last) ∙ set-get_or ls c []
-
 -- ---- whose items wait
 
 of_context : (c : ℕ) (l : List ℕ) (x : Item) → Contains (items_of c l) x → x.context ≡ c
