@@ -119,9 +119,6 @@ impl Interpretation {
 
     /// Whether the property joins the elements of the individuals.
     fn joins(&self, property: PropId, source: IndId, target: IndId) -> bool
-        requires property_there { property.0 < length self.now.pairs }
-        requires source_there { source.0 < length self.now.individuals }
-        requires target_there { target.0 < length self.now.individuals }
         ensures { result ≡ is_target self.now property.0 (element_of self.now source.0) (element_of self.now target.0) }
     {
         let target = self.element_at(target);
@@ -131,7 +128,6 @@ impl Interpretation {
 
     /// Whether the individuals have one element.
     fn have_one_element(&self, individuals: &[IndId]) -> bool
-        requires { All (λ a. a < length self.now.individuals) (ind_numbers individuals.now) }
         ensures { IsTrue result ↔ AllPairs (HaveOneElement self.now) (ind_numbers individuals.now) }
     {
         let Some(first) = individuals.first() else {
@@ -148,7 +144,6 @@ impl Interpretation {
 
     /// Whether each of the individuals has an element that none of the others has.
     fn have_own_elements(&self, individuals: &[IndId]) -> Result<bool, Memory>
-        requires { All (λ a. a < length self.now.individuals) (ind_numbers individuals.now) }
         ensures { IfOk result (λ holds. IsTrue holds ↔ AllPairs (HaveTwoElements self.now) (ind_numbers individuals.now)) }
     {
         let mut met = Row::new(self.alloc, self.size())?;
@@ -164,7 +159,6 @@ impl Interpretation {
 
     /// Whether the property joins each element to itself.
     fn is_reflexive(&self, property: PropId) -> bool
-        requires { property.0 < length self.now.pairs }
         ensures { IsTrue result ↔ ((x : ℕ) → x < self.now.size → is_target self.now property.0 x x ≡ true) }
     {
         for element in 0..self.size() {
@@ -177,7 +171,6 @@ impl Interpretation {
 
     /// Whether each element that the property joins to another is in the row.
     fn has_sources_in(&self, property: PropId, row: &Row) -> bool
-        requires { property.0 < length self.now.pairs }
         ensures { IsTrue result ↔ ((x : ℕ) → x < self.now.size → (y : ℕ) → is_target self.now property.0 x y ≡ true → has row.now x ≡ true) }
     {
         for source in 0..self.size() {
@@ -190,7 +183,6 @@ impl Interpretation {
 
     /// Whether the properties join the same elements.
     fn are_same_properties(&self, properties: &[PropId]) -> bool
-        requires { All (λ r. r < length self.now.pairs) (prop_numbers properties.now) }
         ensures { IsTrue result ↔ AllPairs (HaveSameTargets self.now) (prop_numbers properties.now) }
     {
         let Some(first) = properties.first() else {
@@ -206,8 +198,6 @@ impl Interpretation {
 
     /// Whether the two properties join the same elements.
     fn have_same_targets(&self, first: PropId, second: PropId) -> bool
-        requires first_there { first.0 < length self.now.pairs }
-        requires second_there { second.0 < length self.now.pairs }
         ensures { IsTrue result ↔ HaveSameTargets self.now first.0 second.0 }
     {
         for source in 0..self.size() {
@@ -220,8 +210,6 @@ impl Interpretation {
 
     /// Whether each path along the chain is a pair of the property.
     fn is_sub_property(&self, chain: &[PropId], property: PropId) -> Result<bool, Memory>
-        requires chain_there { All (λ r. r < length self.now.pairs) (prop_numbers chain.now) }
-        requires property_there { property.0 < length self.now.pairs }
         ensures { IfOk result (λ holds. IsTrue holds ↔ IsNumberedSubProperty self.now (prop_numbers chain.now) property.0) }
     {
         for source in 0..self.size() {
@@ -237,7 +225,6 @@ impl Interpretation {
 
     /// The ends of the paths along the chain from the source.
     fn reached(&self, chain: &[PropId], source: usize) -> Result<Row, Memory>
-        requires chain_there { All (λ r. r < length self.now.pairs) (prop_numbers chain.now) }
         requires source_there { source < self.now.size }
         ensures long { IfOk result (λ row. length row ≡ self.now.size) }
         ensures members { IfOk result (λ row. (y : ℕ) → y < self.now.size → (has row y ≡ true) ↔ HasNumberedPath self.now (prop_numbers chain.now) source y) }
@@ -252,7 +239,6 @@ impl Interpretation {
 
     /// The elements that the property joins one of the sources to.
     fn successors(&self, property: PropId, sources: &Row) -> Result<Row, Memory>
-        requires there { property.0 < length self.now.pairs }
         ensures long { IfOk result (λ row. length row ≡ self.now.size) }
         ensures members { IfOk result (λ row. (y : ℕ) → y < self.now.size → (has row y ≡ true) ↔ IsTargetOfSome self.now property.0 sources.now y) }
     {

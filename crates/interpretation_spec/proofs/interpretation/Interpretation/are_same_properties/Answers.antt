@@ -1,13 +1,8 @@
-use Rattle.std.proofs.Common.{◌<◌, ℕ, sym, ◌∙◌, length, refl, true≢false, arith}
-use Rattle.lemmas.proofs.Mapped.{All-from_map}
+use Rattle.std.proofs.Common.{sym, ◌∙◌, refl, true≢false, arith}
 use Rattle.axioms.specs.declared.ids.PropId.{PropId}
 use Rattle.interpretation_spec.specs.NumberedInterpretation.{HaveSameTargets}
 use Rattle.interpretation_spec.proofs.Shapes.{first_and, pairs_of_places, places_of_pairs}
 use Rattle.interpretation_spec.proofs.interpretation.Interpretation.are_same_properties.Goals as goal
-
-pub have_same_targets-requires-clause-second_there : goal.have_same_targets-requires-clause-second_there
-have_same_targets-requires-clause-second_there c =
-    All-from_map (λ (r : ℕ). r < length c.args.self.now.pairs) (λ (r : PropId). r.0) c.args.properties.now c.requires c.loop-property.property-index record { 0 = 0 } c.loop-property-test.true
 
 pub returns-then-not-have_same_targets : goal.returns-then-not-have_same_targets
 returns-then-not-have_same_targets c =

@@ -1,16 +1,10 @@
-use Rattle.std.proofs.Common.{◌<◌, ℕ, List, sym, subst, length, get_or, take}
+use Rattle.std.proofs.Common.{ℕ, List, sym, subst, get_or, take}
 use Rattle.std.proofs.lemmas.List.{map_more}
-use Rattle.lemmas.proofs.Mapped.{All-from_map}
 use Rattle.axioms.specs.declared.ids.PropId.{PropId}
 use Rattle.axioms.specs.View.{prop_numbers}
 use Rattle.interpretation_spec.specs.NamedInterpretation.{HasNumberedPath}
 use Rattle.interpretation_spec.proofs.Shapes.{path_more}
 use Rattle.interpretation_spec.proofs.interpretation.Interpretation.reached.Goals as goal
-
-pub successors-requires : goal.successors-requires
-successors-requires c = record {
-  there = All-from_map (λ (r : ℕ). r < length c.args.self.now.pairs) (λ (r : PropId). r.0) c.args.chain.now c.requires.chain_there c.loop-property.property-index record { 0 = 0 } c.loop-property-test.true;
-}
 
 pub loop-property-preserved : goal.loop-property-preserved
 loop-property-preserved c =

@@ -85,12 +85,6 @@ returns-in-PropertyAssertion c =
     let e = c.joins.ensures in
     rw c.in-PropertyAssertion.is (λ t. said.0 (sym e ∙ t), λ q. e ∙ said.1 q)
 
-pub have_one_element-requires : goal.have_one_element-requires
-have_one_element-requires c =
-    let xs = ind_numbers c.in-SameIndividuals.individuals.items in
-    let of : AreOperands (length c.args.ontology.now.names.individuals) xs = rw c.in-SameIndividuals.is at c.requires.of in
-    rw (c.deref-in-SameIndividuals.ensures.value, c.requires.made_for.individuals) of.within
-
 pub returns-in-SameIndividuals : goal.returns-in-SameIndividuals
 returns-in-SameIndividuals c =
     let o = c.args.ontology.now in
@@ -101,12 +95,6 @@ returns-in-SameIndividuals c =
     let e = rw c.deref-in-SameIndividuals.ensures.value at c.have_one_element.ensures in
     rw c.in-SameIndividuals.is (λ t. said.0 (e.0 t), λ q. e.1 (said.1 q))
 
-pub have_own_elements-requires : goal.have_own_elements-requires
-have_own_elements-requires c =
-    let xs = ind_numbers c.in-DifferentIndividuals.individuals.items in
-    let of : AreOperands (length c.args.ontology.now.names.individuals) xs = rw c.in-DifferentIndividuals.is at c.requires.of in
-    rw (c.deref-in-DifferentIndividuals.ensures.value, c.requires.made_for.individuals) of.within
-
 pub returns-in-DifferentIndividuals : goal.returns-in-DifferentIndividuals
 returns-in-DifferentIndividuals c =
     let o = c.args.ontology.now in
@@ -115,17 +103,6 @@ returns-in-DifferentIndividuals c =
     let of : AreOperands (length o.names.individuals) xs = rw c.in-DifferentIndividuals.is at c.requires.of in
     let said = different_individuals_said o c.well_formed-2.ensures c.args.self.now whole xs of.within in
     rw c.in-DifferentIndividuals.is (said_by said c.have_own_elements.result (rw c.deref-in-DifferentIndividuals.ensures.value at c.have_own_elements.ensures))
-
-pub joins-requires-in-NegativePropertyAssertion : goal.joins-requires-in-NegativePropertyAssertion
-joins-requires-in-NegativePropertyAssertion c =
-    let o = c.args.ontology.now in
-    let p = c.in-NegativePropertyAssertion in
-    let of : (p.property.0 < length o.names.properties) × (p.source.0 < length o.names.individuals) × (p.target.0 < length o.names.individuals) = rw p.is at c.requires.of in
-    record {
-      property_there = rw c.requires.made_for.properties of.0;
-      source_there = rw c.requires.made_for.individuals of.1;
-      target_there = rw c.requires.made_for.individuals of.2;
-    }
 
 pub returns-in-NegativePropertyAssertion : goal.returns-in-NegativePropertyAssertion
 returns-in-NegativePropertyAssertion c =
