@@ -14,13 +14,13 @@ none zero = refl
 none (suc n) = none n
 
 -- a row without elements
-pub without : (row : List Bool) → has_some row ≡ false → replicate (length row) false ≡ row
+without : (row : List Bool) → has_some row ≡ false → replicate (length row) false ≡ row
 without [] h = refl
 without (true ∷ row) h = absurd (true≢false h)
 without (false ∷ row) h = ap (λ (rest : List Bool). false ∷ rest) (without row h)
 
 -- with one element
-pub has_that : (row : List Bool) (x : ℕ) → x < length row → has_some (set row x true) ≡ true
+has_that : (row : List Bool) (x : ℕ) → x < length row → has_some (set row x true) ≡ true
 has_that row x l = list_any_at (λ b. b) (set row x true) x false (omega (arith, l, length-set row x true)) (get_or-set_same row x true false l)
 
 -- ---- those with elements, in order
@@ -147,7 +147,7 @@ module _ (rows : List (List Bool)) (places : List ℕ) (was : ArePlaced rows pla
         | inr ne ↦ ap (λ (p : ℕ). has_some (get_or longer p [])) (others d ne) ∙ ap has_some (old (place d) (was.there d)) ∙ was.used d l (omega (arith, at, others d ne))
       ]
 
-      pub begun : ArePlaced longer moved
+      begun : ArePlaced longer moved
       begun = record {
         common = ap has_some (old 0 (let before = was.there 0 in omega (arith, before))) ∙ was.common;
         there = longer_there;
@@ -155,7 +155,7 @@ module _ (rows : List (List Bool)) (places : List ℕ) (was : ArePlaced rows pla
         used = longer_used;
       }
 
-      pub rows_begun : rows_at longer moved ≡ set (rows_at rows places) c row
+      rows_begun : rows_at longer moved ≡ set (rows_at rows places) c row
       rows_begun =
           same_lists (rows_at longer moved) (set (rows_at rows places) c row)
           (length-map moved (λ p. get_or longer p []) ∙ length-set places c (length rows) ∙ sym (length-set (rows_at rows places) c row ∙ length-map places (λ p. get_or rows p [])))
@@ -213,3 +213,16 @@ module _ (rows : List (List Bool)) (places : List ℕ) (was : ArePlaced rows pla
             | inr ne ↦ left ∙ elsewhere (place k) (λ same. ne (sym (was.own c k used (sym same))))
                 ∙ sym (get_or-set_other (rows_at rows places) c k more d ne ∙ get_or-map (λ p. get_or rows p []) places k 0 d low)
           ])
+
+-- a class without elements, which is not owl:Thing, begins a row with one
+pub begun_with : (rows : List (List Bool)) (places : List ℕ) (now : List (List Bool)) (c x n : ℕ) (row : List Bool) → ArePlaced rows places → rows_at rows places ≡ now
+    → (0 < c) × (c < length now) → has_some (get_or now c []) ≡ false → x < length (get_or now c []) → n ≡ length (get_or now c []) → row ≡ set (replicate n false) x true
+    → ArePlaced (rows ++ row ∷ []) (set places c (length rows)) × (rows_at (rows ++ row ∷ []) (set places c (length rows)) ≡ set now c (set (get_or now c []) x true))
+begun_with rows places now c x n row was is class none inside long with_it =
+    let old : List Bool = get_or now c [] in
+    let more : row ≡ set old x true = with_it ∙ ap (λ (r : List Bool). set r x true) (ap (λ (k : ℕ). replicate k false) long ∙ without old none) in
+    let used : has_some row ≡ true = ap has_some more ∙ has_that old x inside in
+    let within : c < length places = omega (arith, class.1, ap length is, length-map places (λ (p : ℕ). get_or rows p [])) in (
+      begun rows places was c class.0 within row used,
+      rows_begun rows places was c class.0 within row used ∙ ap (λ (all : List (List Bool)). set all c row) is ∙ ap (set now c) more,
+    )
