@@ -100,7 +100,7 @@ impl Interpretation {
         self.classes.get(class.index())
     }
 
-    /// The numbers of the classes but `owl:Thing` that have elements, ascending. No other class is looked at.
+    /// The numbers of the classes but `owl:Thing` that have elements, ascending. Of each other class only its place is looked at.
     ///
     /// # Errors
     ///
