@@ -1,7 +1,8 @@
 -- Which classes have elements, and that nothing has to be told of the others.
-use Rattle.std.proofs.Common.{slice_get, Some, All, ◌≡◌, ℕ, ◌+◌, ◌<◌, Bool, true, false, cond, List, [], ◌∷◌, ◌++◌, length, refl, sym, ap, ◌∙◌, arith}
+use Rattle.std.proofs.Common.{slice_get, Some, All, ◌≡◌, ℕ, ◌+◌, ◌-◌, ◌<◌, Bool, true, false, cond, List, [], ◌∷◌, ◌++◌, length, get_or, refl, sym, ap, ◌∙◌, subst, arith}
 use Rattle.std.specs.List.{filter, flat_map, list_any, range_with_len}
 use Rattle.std.proofs.lemmas.Bool.{both_ways}
+use Rattle.std.proofs.lemmas.List.Elements.{All-filter}
 use Rattle.std.proofs.lemmas.List.FromFn.{get_or-range_with_len, length-range_with_len}
 use Rattle.std.proofs.lemmas.List.Folds.{list_any_at}
 use Rattle.std.proofs.lemmas.Option.{get_or_from_slice_get, slice_get_within}
@@ -55,10 +56,16 @@ filter_swap p q (x ∷ xs) =
 
 -- ---- numbers in a row
 
-pub range_below : (a n : ℕ) → All (λ x. x < a + n) (range_with_len a n)
+range_below : (a n : ℕ) → All (λ x. x < a + n) (range_with_len a n)
 range_below a n i d l =
     let low : i < n = omega (arith, l, length-range_with_len a n) in
     omega (arith, low, get_or-range_with_len a n i d low)
+
+-- one of those classes that have elements is one of all
+pub class_below : (p : ℕ → Bool) (many : ℕ) (classes : List ℕ) (k : ℕ) → classes ≡ filter p (range_with_len 1 (many - 1)) → k < length classes → get_or classes k 0 < 1 + (many - 1)
+class_below p many classes k are l =
+    let P : ℕ → Type 0 = λ n. n < 1 + (many - 1) in
+    subst (All P) (sym are) (All-filter p P (range_with_len 1 (many - 1)) (range_below 1 (many - 1))) k 0 l
 
 -- ---- the members of a class
 

@@ -1,21 +1,16 @@
-use Rattle.std.proofs.Common.{◌≡◌, ◌+◌, ◌-◌, ◌<◌, All, take, get_or, length, sym, ◌∙◌, subst, arith}
-use Rattle.std.specs.List.{filter, range_with_len}
-use Rattle.std.proofs.lemmas.List.Elements.{All-filter}
+use Rattle.std.proofs.Common.{◌+◌, take, get_or, length, ◌∙◌, arith}
 use Rattle.std.proofs.lemmas.List.{take_all, take_more}
 use Rattle.interpretation_spec.specs.Members.{has_elements}
 use Rattle.number_sets.specs.Pieces.{list_at}
-use Rattle.answer_texts.proofs.Classes.{range_below}
+use Rattle.answer_texts.proofs.Classes.{class_below}
 use Rattle.answer_texts.proofs.Labelling.{all_classes, class_more}
 use Rattle.answer_texts.proofs.labels.classes_by_element.Goals as goal
 
 pub overflow_cast-number : goal.overflow_cast-number
 overflow_cast-number c =
     let i = c.args.interpretation.now in
-    let numbers = range_with_len 1 (length i.classes - 1) in
-    let below : All (λ n. n < 1 + (length i.classes - 1)) (filter (has_elements i) numbers) = All-filter (has_elements i) (λ n. n < 1 + (length i.classes - 1)) numbers (range_below 1 (length i.classes - 1)) in
-    let classes = c.deref-number-items.result.now in
-    let are : classes ≡ filter (has_elements i) numbers = c.deref-number-items.ensures.value ∙ c.in_ok-classes.ensures in
-    let low = subst (All (λ n. n < 1 + (length i.classes - 1))) (sym are) below c.loop-number.number-index 0 (omega arith) in
+    let are = c.deref-number-items.ensures.value ∙ c.in_ok-classes.ensures in
+    let low = class_below (has_elements i) (length i.classes) c.deref-number-items.result.now c.loop-number.number-index are c.loop-number-test.true in
     record { fits = omega (arith, low, c.requires.classes, c.bounded.ensures.classes) }
 
 pub loop-number-preserved : goal.loop-number-preserved

@@ -1,24 +1,20 @@
-use Rattle.std.proofs.Common.{◌≡◌, ℕ, ◌+◌, ◌-◌, ◌<◌, List, ◌++◌, All, take, get_or, length, sym, ap, ◌∙◌, subst, arith}
-use Rattle.std.specs.List.{filter, flat_map, range_with_len}
-use Rattle.std.proofs.lemmas.List.Elements.{All-filter}
+use Rattle.std.proofs.Common.{◌≡◌, ℕ, ◌+◌, ◌-◌, List, ◌++◌, take, get_or, length, ap, ◌∙◌, arith}
+use Rattle.std.specs.List.{flat_map, range_with_len}
 use Rattle.std.proofs.lemmas.List.{take_all, take_more}
 use Rattle.axioms.specs.Ontology.{name_at}
 use Rattle.interpretation_spec.specs.Members.{has_elements}
 use Rattle.interpretation_spec.specs.NumberedInterpretation.{members_of}
 use Rattle.number_sets.specs.Members.{has}
 use Rattle.answer_texts.specs.Refutation as text
-use Rattle.answer_texts.proofs.Classes.{filter_none, filtered, has_none, range_below}
+use Rattle.answer_texts.proofs.Classes.{class_below, filter_none, filtered, has_none}
 use Rattle.answer_texts.proofs.More.{added, flat_more}
 use Rattle.answer_texts.proofs.refutation.push_classes.Goals as goal
 
 pub overflow_cast-class : goal.overflow_cast-class
 overflow_cast-class c =
     let i = c.args.told.now.interpretation.now in
-    let numbers = range_with_len 1 (length i.classes - 1) in
-    let below : All (λ n. n < 1 + (length i.classes - 1)) (filter (has_elements i) numbers) = All-filter (has_elements i) (λ n. n < 1 + (length i.classes - 1)) numbers (range_below 1 (length i.classes - 1)) in
-    let classes = c.deref-number-items.result.now in
-    let are : classes ≡ filter (has_elements i) numbers = c.deref-number-items.ensures.value ∙ c.in_ok-classes.ensures in
-    let low = subst (All (λ n. n < 1 + (length i.classes - 1))) (sym are) below c.loop-number.number-index 0 (omega arith) in
+    let are = c.deref-number-items.ensures.value ∙ c.in_ok-classes.ensures in
+    let low = class_below (has_elements i) (length i.classes) c.deref-number-items.result.now c.loop-number.number-index are c.loop-number-test.true in
     record { fits = omega (arith, low, c.requires.classes, c.bounded.ensures.classes) }
 
 pub loop-number-preserved : goal.loop-number-preserved
