@@ -4,7 +4,6 @@ ghost use Rattle.certificate.specs.View.{pair_row_of};
 ghost use Rattle.listed_model.specs.Listing.{targets_of};
 ghost use Rattle.listed_model.specs.Members.{holds};
 ghost use Rattle.listed_model.specs.Rows.{ArePairRows, HaveSamePairs, LiesWithin};
-ghost use Rattle.std.specs.List.Sorted.{IsStrictlyIncreasing};
 ghost use Rattle.std.specs.Prelude.{◌≡◌, ◌↔◌, ◌<◌, AllPairs, IsTrue, map, true, ℕ};
 
 use crate::ascending::{are_within, stands_in};
@@ -38,20 +37,6 @@ pub(crate) fn are_same_properties(rows: &[PairRow], properties: &[PropId]) -> bo
             return false;
         }
         if !are_pairs_within(rows, *property, *first) {
-            return false;
-        }
-    }
-    true
-}
-
-/// Whether each element that the property leads to another from is among the members.
-pub(crate) fn has_sources_in(rows: &[PairRow], property: PropId, members: &[u32]) -> bool
-    requires rows { ArePairRows rows.now }
-    requires members { IsStrictlyIncreasing members.now }
-    ensures { IsTrue result ↔ ((x y : ℕ) → holds (targets_of (map pair_row_of rows.now) property.0 x) y ≡ true → holds members.now x ≡ true) }
-{
-    for row in rows_of(rows, property) {
-        if !stands_in(members, row.source) {
             return false;
         }
     }
