@@ -1,7 +1,8 @@
 -- Lists of keys that have changed.
-use Rattle.std.proofs.Common.{◌≡◌, inl, inr, ℕ, zero, suc, ◌<◌, ◌≤◌, Bool, true, false, List, [], ◌∷◌, ◌++◌, length, get_or, slice_get, Option, Some, None, Result, Ok, Err, OnOk, OnErr, Contains, refl, sym, ap, subst, ◌∙◌, arith}
+use Rattle.std.proofs.Common.{◌≡◌, inl, inr, ℕ, zero, suc, ◌+◌, ◌<◌, ◌≤◌, Bool, true, false, List, [], ◌∷◌, ◌++◌, length, get_or, slice_get, Option, Some, None, Result, Ok, Err, OnOk, OnErr, Contains, refl, sym, ap, subst, ◌∙◌, arith}
 use Rattle.std.specs.Prelude.{slice_set, if◌then◌else◌}
 use Rattle.std.specs.List.{insert}
+use Rattle.std.proofs.lemmas.Bool.{cases_lt}
 use Rattle.std.proofs.lemmas.List.{set-get_or}
 use Rattle.std.proofs.lemmas.List.Edits.{length-insert}
 use Rattle.std.specs.declared.alloc.AllocError.{AllocError}
@@ -27,6 +28,14 @@ module _ {T : Type 0} where
       rw (e) (rw (same_is_key k k refl) refl)
   first_is (c ∷ cs) k (suc place) items at first =
       rw (other_key k c.0 (λ e. first 0 c (omega arith) refl (sym e))) (first_is cs k place items at (λ i d l. first (suc i) d (omega (arith, l))))
+
+  -- where none before a place is of the key, and neither is that at it, none up to it is
+  pub still_none : (changed : List (Key × List T)) (k : Key) (place : ℕ) (d : Key × List T) → place < length changed → d ≡ get_or changed place d → ¬ (d.0 ≡ k)
+      → ((i : ℕ) (c : Key × List T) → i < place → slice_get changed i ≡ Some c → ¬ (c.0 ≡ k)) → (i : ℕ) (c : Key × List T) → i < place + 1 → slice_get changed i ≡ Some c → ¬ (c.0 ≡ k)
+  still_none changed k place d low at other before i c l there = elim (cases_lt i place) [
+    | inl less ↦ before i c less there
+    | inr high ↦ λ e. let is : i ≡ place = omega (arith, l, high) in other (ap (λ (x : Key × List T). x.0) (at ∙ same_Some (get_or changed place d) c (sym (slice_get-get_or changed place d low) ∙ ap (slice_get changed) (sym is) ∙ there)) ∙ e)
+  ]
 
   pub none_is : (changed : List (Key × List T)) (k : Key) → HaveNot changed k → changed_at changed k ≡ None
   none_is [] k have_not = refl

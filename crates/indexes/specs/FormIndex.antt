@@ -87,7 +87,7 @@ pub record AreLedForms (key : Form → Option Key) (forms : List Form) (lists : 
   pub few : led.end ≤ length forms
   pub listed : ListsNumbers key (slice_get (take led.end forms)) (at_key lists.shared.value)
   pub shared : AreListedForms (take led.end forms) lists.shared.value led.shared.value
-  pub changed : AreChangedForms forms lists.changed.items led.changed.items
+  pub changed : AreChangedForms forms lists.changed.items led.changed
 
 -- .. the operands are those of the lists of disjoint classes, and beside each number by a class alone and by a filler its form stands
 pub record IsIndexed (forms : List Form) (classes : List (List ExprId)) (operands : List Operand) (lists : ByRole FormLists) (of_alone of_fillers : LedForms) : Type 0 where

@@ -1,5 +1,5 @@
 -- Forms that stand in lists with what they lead to.
-use Rattle.std.specs.Prelude.{◌≡◌, ℕ, ◌↔◌, List, map, slice_get, if◌then◌else◌, Option, Some, None}
+use Rattle.std.specs.Prelude.{◌≡◌, ℕ, ◌↔◌, List, ◌∷◌, map, slice_get, if◌then◌else◌, Option, Some, None}
 use Rattle.std.specs.List.{AllZip, Contains}
 use Rattle.axioms.specs.declared.ids.PropId.{PropId}
 use Rattle.normal_forms.specs.declared.forms.Class2.{Class2}
@@ -14,8 +14,8 @@ use Rattle.indexes.specs.declared.listed_forms.ListedForm.{ListedForm}
 use Rattle.indexes.specs.declared.listed_forms.ListedForms.{ListedForms}
 use Rattle.indexes.specs.declared.form_lists.FormLists.{FormLists}
 use Rattle.indexes.specs.declared.led_forms.LedForms.{LedForms}
-use Rattle.indexes.specs.ChangedLists.{changed_at, changed_or}
-use Rattle.indexes.specs.FormsUnderKeys.{IsUnder}
+use Rattle.indexes.specs.ChangedLists.{changed_or}
+use Rattle.indexes.specs.FormsUnderKeys.{is_key, IsUnder}
 use Rattle.indexes.specs.Lists.{list_at}
 
 -- the property of the restriction on one side of the form
@@ -61,9 +61,14 @@ pub record AreListedForms (forms : List Form) (lists : KeyLists) (listed : Liste
   pub wholes : AreOf forms lists.wholes.numbers.items listed.wholes.items
   pub partials : AreOf forms lists.partials.numbers.items listed.partials.items
 
--- .. of lists that have changed, key by key
-abbrev pub AreChangedForms : List Form → List (Key × List ℕ) → List (Key × List ListedForm) → Type 0
-AreChangedForms forms lists changed = AllZip (λ numbers listed. (listed.0 ≡ numbers.0) × AreOf forms numbers.1 listed.1) lists changed
+-- .. of lists that have changed, one by one
+abbrev pub AreChangedForms : List Form → List (Key × List ℕ) → List (List ListedForm) → Type 0
+AreChangedForms forms lists changed = AllZip (λ numbers listed. AreOf forms numbers.1 listed) lists changed
+
+-- those of the list of a key, if that has changed
+abbrev pub changed_forms_at : List (Key × List ℕ) → List (List ListedForm) → Key → Option (List ListedForm)
+changed_forms_at (c ∷ cs) (listed ∷ more) k = if is_key k (Some c.0) then Some listed else changed_forms_at cs more k
+changed_forms_at _ _ k = None
 
 -- those of a key
 abbrev pub forms_at_key : KeyLists → ListedForms → Key → List ListedForm
@@ -72,7 +77,7 @@ forms_at_key lists listed (Partial k) = list_at lists.partials.starts.items list
 
 -- .. where copies share those of the keys that have not changed
 abbrev pub led_at : FormLists → LedForms → Key → List ListedForm
-led_at lists led k = changed_or (changed_at led.changed.items k) (forms_at_key lists.shared.value led.shared.value k)
+led_at lists led k = changed_or (changed_forms_at lists.changed.items led.changed k) (forms_at_key lists.shared.value led.shared.value k)
 
 -- exactly the forms with a key are there, each with what it leads to
 pub record AreLedBy (key : Form → Option Key) (forms : List Form) (k : Key) (listed : List ListedForm) : Type 0 where

@@ -48,7 +48,8 @@ pub(crate) fn insert_at(
     ensures elsewhere { (k : Key2) → ¬ (k ≡ key) → changed_at changed.new.items k ≡ changed_at changed.old.items k }
     ensures err { OnErr result (changed.new.items ≡ changed.old.items) }
 {
-    changed[place].insert(many, number)
+    let alloc = *changed.allocator();
+    changed[place].insert(alloc, many, number)
 }
 
 /// Puts a list of the key behind the others: these numbers, and behind so many of them the number. Fails where memory is refused; then
@@ -67,8 +68,7 @@ pub(crate) fn begin(
     ensures elsewhere { (k : Key2) → ¬ (k ≡ key) → changed_at changed.new.items k ≡ changed_at changed.old.items k }
     ensures err { OnErr result (changed.new.items ≡ changed.old.items) }
 {
-    let mut list = ChangedList::of(*changed.allocator(), key, numbers)?;
-    list.insert(many, number)?;
+    let list = ChangedList::with_one(*changed.allocator(), key, numbers, many, number)?;
     let Ok(()) = changed.push(list) else {
         return Err(AllocError);
     };

@@ -83,7 +83,7 @@ impl Model for IndexedProblem {
 }
 
 /// Up to how many further forms there may be beside lists that copies share; then all are listed anew. It decides nothing.
-const FEW_FORMS: usize = 64;
+const FEW_FORMS: usize = 128;
 
 /// The problem of these forms, lists and roots, with all forms listed by key. Fails where memory is refused, and where there are 2^32 forms,
 /// lists or members of lists.

@@ -2,22 +2,23 @@
 ghost use Rattle.std.specs.Prelude.{◌≡◌, [], IfOk, length};
 ghost use Rattle.indexes.specs.ListedForms.{led_at, AreChangedForms, AreListedForms};
 
-use crate::changed_lists::{ChangedList, list_of};
+use crate::changed_lists::{ChangedList, place_of};
 use crate::form_lists::FormLists;
 use crate::keys::Key;
-use crate::listed_forms::{ListedForm, ListedForms, listed_forms};
+use crate::listed_forms::{ListedForm, ListedForms, put_forms};
 use normal_forms::FormList;
+use number_sets::PackedLists;
 use std::alloc::{AllocError, Global};
 use std::rc::Rc;
 
 /// For each number of lists its form: beside the lists that copies share those of the first so many forms, and beside those that have
-/// changed those of all.
+/// changed, in the order of these, those of all.
 #[derive(Drop)]
 pub(crate) struct LedForms {
     pub shared: Rc<ListedForms>,
     /// How many forms are listed there.
     pub end: usize,
-    pub changed: Vec<ChangedList<ListedForm>>,
+    pub changed: PackedLists<ListedForm>,
 }
 
 /// The forms of the numbers of lists that have changed. Fails where memory is refused.
@@ -25,13 +26,14 @@ fn forms_of(
     alloc: Global,
     forms: &FormList,
     lists: &[ChangedList],
-) -> Result<Vec<ChangedList<ListedForm>>, AllocError>
-    ensures { IfOk result (λ changed. AreChangedForms forms.now lists.now changed.items) }
+) -> Result<PackedLists<ListedForm>, AllocError>
+    ensures { IfOk result (λ changed. AreChangedForms forms.now lists.now changed) }
 {
-    let mut changed = Vec::with_capacity(alloc, lists.len())?;
+    let mut changed = PackedLists::new(alloc);
+    let mut listed = Vec::new(alloc);
     for list in lists {
-        let listed = listed_forms(alloc, forms, list.items())?;
-        changed.push(ChangedList::new(list.key(), listed))?;
+        put_forms(forms, list.numbers(), &mut listed)?;
+        changed.push_list(&listed)?;
     }
     Ok(changed)
 }
@@ -41,7 +43,7 @@ impl LedForms {
     pub(crate) fn of(alloc: Global, forms: &FormList, lists: &FormLists) -> Result<Self, AllocError>
         ensures shared { IfOk result (λ led. AreListedForms forms.now lists.now.shared.value led.shared.value) }
         ensures end { IfOk result (λ led. led.end ≡ length forms.now) }
-        ensures changed { IfOk result (λ led. led.changed.items ≡ []) }
+        ensures changed { IfOk result (λ led. led.changed ≡ []) }
     {
         let listed = ListedForms::of(alloc, forms, lists.shared.as_ref())?;
         let Ok(shared) = Rc::new(alloc, listed) else {
@@ -50,7 +52,7 @@ impl LedForms {
         Ok(LedForms {
             shared,
             end: forms.len(),
-            changed: Vec::new(alloc),
+            changed: PackedLists::new(alloc),
         })
     }
 
@@ -63,7 +65,7 @@ impl LedForms {
     ) -> Result<Self, AllocError>
         ensures shared { IfOk result (λ led. led.shared.value ≡ self.now.shared.value) }
         ensures end { IfOk result (λ led. led.end ≡ self.now.end) }
-        ensures changed { IfOk result (λ led. AreChangedForms forms.now lists.now.changed.items led.changed.items) }
+        ensures changed { IfOk result (λ led. AreChangedForms forms.now lists.now.changed.items led.changed) }
     {
         let changed = forms_of(alloc, forms, &lists.changed)?;
         Ok(LedForms {
@@ -73,15 +75,17 @@ impl LedForms {
         })
     }
 
-    /// The forms of the list of the key, where for each number of the lists that are shared there is one.
+    /// The forms of the list of the key, where for each number of the lists that are shared there is one, and for each list that has
+    /// changed a list.
     #[inline(always)]
     pub(crate) fn at(&self, lists: &FormLists, key: Key) -> &[ListedForm]
         requires wholes { length self.now.shared.value.wholes.items ≡ length lists.now.shared.value.wholes.numbers.items }
         requires partials { length self.now.shared.value.partials.items ≡ length lists.now.shared.value.partials.numbers.items }
+        requires changed { length self.now.changed ≡ length lists.now.changed.items }
         ensures { result.now ≡ led_at lists.now self.now key }
     {
-        match list_of(&self.changed, key) {
-            Some(list) => list,
+        match place_of(&lists.changed, key) {
+            Some(place) => self.changed.at(place),
             None => self.shared.as_ref().at(lists.shared.as_ref(), key),
         }
     }

@@ -1,5 +1,5 @@
 //! Forms as they stand in the lists of classes: with what they lead to.
-ghost use Rattle.std.specs.Prelude.{◌≡◌, IfOk, length};
+ghost use Rattle.std.specs.Prelude.{◌≡◌, IfOk, OnOk, length};
 ghost use Rattle.indexes.specs.ListedForms.{forms_at_key, listed_class, listed_property, AreListedForms, AreOf, SaysItsForm};
 
 use crate::key_lists::KeyLists;
@@ -78,18 +78,32 @@ impl ListedForm {
     }
 }
 
+/// Puts the forms of these numbers in place of what is in the list. Fails where memory is refused.
+pub(crate) fn put_forms(
+    forms: &FormList,
+    numbers: &[u32],
+    listed: &mut Vec<ListedForm>,
+) -> Result<(), AllocError>
+    ensures { OnOk result (AreOf forms.now numbers.now listed.new.items) }
+{
+    listed.clear();
+    listed.reserve(numbers.len())?;
+    for number in numbers {
+        listed.push(ListedForm::at(forms, *number))?;
+    }
+    Ok(())
+}
+
 /// The forms of these numbers. Fails where memory is refused.
-pub(crate) fn listed_forms(
+fn listed_forms(
     alloc: Global,
     forms: &FormList,
     numbers: &[u32],
 ) -> Result<Vec<ListedForm>, AllocError>
     ensures { IfOk result (λ listed. AreOf forms.now numbers.now listed.items) }
 {
-    let mut listed = Vec::with_capacity(alloc, numbers.len())?;
-    for number in numbers {
-        listed.push(ListedForm::at(forms, *number))?;
-    }
+    let mut listed = Vec::new(alloc);
+    put_forms(forms, numbers, &mut listed)?;
     Ok(listed)
 }
 

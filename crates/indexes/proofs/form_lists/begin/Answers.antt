@@ -6,7 +6,7 @@ use Rattle.indexes.proofs.form_lists.begin.Goals.{In-Ok}
 use Rattle.indexes.proofs.form_lists.begin.Goals as goal
 
 is : (c : In-Ok) → c.push.new.self.items ≡ c.args.changed.now.items ++ (c.args.key, insert c.args.numbers.now c.args.many c.args.number) ∷ []
-is c = c.in-Ok.ensures.items ∙ ap (λ (d : Key × List ℕ). c.args.changed.now.items ++ d ∷ []) (c.in_ok-insert.ensures.ok ∙ ap (λ (d : Key × List ℕ). (d.0, insert d.1 c.args.many c.args.number)) c.in_ok-list.ensures)
+is c = c.in-Ok.ensures.items ∙ ap (λ (d : Key × List ℕ). c.args.changed.now.items ++ d ∷ []) c.in_ok-list.ensures
 
 pub returns-clause-ok : goal.returns-clause-ok
 returns-clause-ok c = push_one c.args.changed.now.items c.push.new.self.items c.args.key (insert c.args.numbers.now c.args.many c.args.number) c.requires.none (is c)

@@ -1,7 +1,7 @@
 use Rattle.std.proofs.Common.{◌+◌, subst, sym, take}
 use Rattle.indexes.specs.ListedForms.{AreOf}
 use Rattle.indexes.proofs.Led.{one_more}
-use Rattle.indexes.proofs.listed_forms.listed_forms.Goals as goal
+use Rattle.indexes.proofs.listed_forms.put_forms.Goals as goal
 
 pub loop-number-preserved : goal.loop-number-preserved
 loop-number-preserved c =
