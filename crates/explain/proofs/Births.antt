@@ -82,7 +82,7 @@ other_hand form free (HandsOn.class {i = i} {j = j} link) = other_link form i j 
 other_hand form free (HandsOn.source {i = i} {j = j} link) = other_link form i j free link
 other_hand form free (HandsOn.target {i = i} {j = j} link) = other_link form i j free link
 
-abbrev reason_of : ℕ → List ℕ → Option ℕ → Reason
+abbrev pub reason_of : ℕ → List ℕ → Option ℕ → Reason
 reason_of condition older place = record { condition = condition; older = older; form = place }
 
 module _ (k : Problem) (facts : List Fact) (entries : List Entry) (m : ℕ) (by : by_axiom entries (Some m) ≡ true) where

@@ -6,7 +6,7 @@ use Rattle.axioms.specs.WellFormedness.{IsOntology}
 use Rattle.axioms.specs.declared.ids.ExprId.{ExprId}
 use Rattle.certificate.specs.Certificate.{Line}
 use Rattle.engine.specs.Saturations.{Saturated, IsSaturated}
-use Rattle.explain.proofs.Births.{born_by, same_each, each_there, none_named, other_hand}
+use Rattle.explain.proofs.Births.{born_by, same_each, each_there, none_named, other_hand, reason_of}
 use Rattle.explain.proofs.ByExpression.{IsOfExpression, expression_free, expression_kind, expression_leads, leads_to}
 use Rattle.explain.proofs.Within.{fact_within, form_said}
 use Rattle.explain.specs.OlderFacts.{rests_on, by_axiom, is_by_axiom, is_axiom}
@@ -30,9 +30,6 @@ use Rattle.normalise.specs.Problem.{prefixes_of}
 pub record IsGivenBy (k : Problem) (entries : List Entry) (r : Reason) (form : Form) (older : List Fact) (f : Fact) : Type 0 where
   pub concludes : Concludes k form older f
   pub rests : rests_on entries r ≡ r.older
-
-abbrev reason_of : ℕ → List ℕ → Option ℕ → Reason
-reason_of condition older place = record { condition = condition; older = older; form = place }
 
 module _ (k : Problem) (entries : List Entry) (m : ℕ) (by : by_axiom entries (Some m) ≡ false) where
   concluded_by : (numbers : List ℕ) (older : List Fact) (form : Form) (f : Fact) → IsOfExpression form → Concludes k form older f → IsGivenBy k entries (reason_of (condition form) numbers (Some m)) form older f
