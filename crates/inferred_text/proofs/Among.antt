@@ -1,9 +1,10 @@
 -- Numbers in lists: those that pass a test, and how many pass.
-use Rattle.std.proofs.Common.{◌≡◌, ℕ, ◌<◌, Bool, true, false, eqb, ◌&&◌, List, [], ◌∷◌, length, inl, inr, refl, sym, ap, ap₂, ◌∙◌}
-use Rattle.std.specs.List.{filter, list_any}
-use Rattle.std.proofs.lemmas.Bool.{and_from, and_parts, eq-eqb, eqb-true, false≢true, lt-ltb, ltb-true, or_cases, or_left, or_right}
+use Rattle.std.proofs.Common.{◌≡◌, ℕ, ◌<◌, Bool, true, false, eqb, ◌&&◌, List, ◌∷◌, length, inl, inr, refl, sym, ap₂, ◌∙◌}
+use Rattle.std.specs.List.{filter}
+use Rattle.std.proofs.lemmas.Bool.{and_from, and_parts, eq-eqb, eqb-true, lt-ltb, ltb-true, or_cases, or_left, or_right}
 use Rattle.taxonomy.specs.Superclasses.{is_among}
 use Rattle.taxonomy.specs.Texts.{numbers_below, some_below}
+use Rattle.taxonomy.proofs.Arranged.{among_found, any_at}
 use Rattle.taxonomy.proofs.Once.{among_below, among_filter, once_below, once_filter}
 use Rattle.taxonomy.proofs.Within.{length_within}
 
@@ -19,26 +20,10 @@ among_tail x k xs h = or_right (eqb x k) (is_among xs k) h
 
 -- ---- numbers that pass
 
-pub any_found : (p : ℕ → Bool) (xs : List ℕ) → list_any p xs ≡ true → (k : ℕ) × (is_among xs k ≡ true) × (p k ≡ true)
-any_found p [] h = absurd (false≢true h)
-any_found p (x ∷ xs) h =
-    elim (or_cases (p x) (list_any p xs) h) [
-      | inl e ↦ (x, among_head x xs, e)
-      | inr e ↦ let w = any_found p xs e in (w.0, among_tail x w.0 xs w.1, w.2)
-    ]
-
-any_at : (p : ℕ → Bool) (xs : List ℕ) (k : ℕ) → is_among xs k ≡ true → p k ≡ true → list_any p xs ≡ true
-any_at p [] k h e = absurd (false≢true h)
-any_at p (x ∷ xs) k h e =
-    elim (or_cases (eqb x k) (is_among xs k) h) [
-      | inl q ↦ or_left (p x) (list_any p xs) (ap p (eqb-true x k q) ∙ e)
-      | inr q ↦ or_right (p x) (list_any p xs) (any_at p xs k q e)
-    ]
-
 -- a number below n that passes
 pub some_found : (n : ℕ) (p : ℕ → Bool) → some_below n p ≡ true → (k : ℕ) × (k < n) × (p k ≡ true)
 some_found n p h =
-    let w = any_found p (numbers_below n) h in
+    let w = among_found p (numbers_below n) h in
     (w.0, ltb-true w.0 n (sym (among_below n w.0) ∙ w.1), w.2)
 
 pub some_at : (n : ℕ) (p : ℕ → Bool) (k : ℕ) → k < n → p k ≡ true → some_below n p ≡ true
