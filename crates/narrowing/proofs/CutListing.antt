@@ -16,6 +16,7 @@ use Rattle.lemmas.proofs.Pairs.{AllPairs-map, AllPairs-from_map}
 use Rattle.listed_model.specs.Listing.{elements_of, targets_of}
 use Rattle.narrowing.specs.FoldedListing.{FoldsListing, folded_claim}
 use Rattle.certificate.specs.Held.{held_in, held_class, held_pairs, held_listing}
+use Rattle.narrowing.specs.Renumbered.{renumbered_class, renumbered_pairs}
 use Rattle.narrowing.specs.Cut.{single_points, points_in, points_of, interval_of, cut_at, AreStarts}
 use Rattle.narrowing.proofs.Agreeing.{Agrees, agreeing_folds}
 use Rattle.narrowing.proofs.Climbing.{Climbs, climbs}
@@ -24,18 +25,12 @@ use Rattle.narrowing.proofs.Intervals.{RisesAt, alone, intervals_monotone, inter
 
 -- ---- rows
 
-abbrev mapped_class : (ℕ → ℕ) → ℕ × List ℕ → ℕ × List ℕ
-mapped_class f row = (row.0, map f row.1)
-
-abbrev mapped_pairs : (ℕ → ℕ) → ℕ × ℕ × List ℕ → ℕ × ℕ × List ℕ
-mapped_pairs f row = (row.0, f row.1, map f row.2)
-
 -- a row of a held listing that is mapped
 abbrev after_class : (ℕ → ℕ) → ℕ × List ℕ → ℕ × List ℕ
-after_class f row = held_class (mapped_class f row)
+after_class f row = held_class (renumbered_class f row)
 
 abbrev after_pairs : (ℕ → ℕ) → ℕ × ℕ × List ℕ → ℕ × ℕ × List ℕ
-after_pairs f row = held_pairs (mapped_pairs f row)
+after_pairs f row = held_pairs (renumbered_pairs f row)
 
 twice : {A B C : Type 0} (g : B → C) (f : A → B) (xs : List A) → map g (map f xs) ≡ map (λ x. g (f x)) xs
 twice g f [] = refl
@@ -201,11 +196,11 @@ module _ (o : Ontology) (w : IsOntology o) (l : Listed) (starts : List ℕ) (fit
 
   -- ---- the whole
 
-  classes_twice : map held_class (map (mapped_class f) l.classes) ≡ map (after_class f) l.classes
-  classes_twice = twice held_class (mapped_class f) l.classes
+  classes_twice : map held_class (map (renumbered_class f) l.classes) ≡ map (after_class f) l.classes
+  classes_twice = twice held_class (renumbered_class f) l.classes
 
-  pairs_twice : map held_pairs (map (mapped_pairs f) l.pairs) ≡ map (after_pairs f) l.pairs
-  pairs_twice = twice held_pairs (mapped_pairs f) l.pairs
+  pairs_twice : map held_pairs (map (renumbered_pairs f) l.pairs) ≡ map (after_pairs f) l.pairs
+  pairs_twice = twice held_pairs (renumbered_pairs f) l.pairs
 
   cut_agrees : Agrees (held_listing l) (held_listing (cut_at starts l)) f
   cut_agrees = record {
