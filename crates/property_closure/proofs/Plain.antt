@@ -11,7 +11,6 @@ use Rattle.lemmas.proofs.Members.{Contains-first, Contains-one, Contains-from_sl
 use Rattle.lemmas.proofs.Pairs.{AllPairs-map}
 use Rattle.axioms.specs.declared.ids.PropId.{PropId}
 use Rattle.normal_forms.specs.declared.forms.PropId2.{PropId2}
-use Rattle.normal_forms.specs.declared.forms.PropId2.TheVariants.{Property, Partial}
 use Rattle.normal_forms.specs.declared.forms.Form.{Form}
 use Rattle.normal_forms.specs.declared.forms.Form.TheVariants.{N5}
 use Rattle.normal_forms.specs.Properties.{ComesBefore, IsAtOrBelow, same, step}
@@ -20,6 +19,7 @@ use Rattle.number_sets.specs.Search.{LeadsTo, itself, onward, IsBounded, AreFoun
 use Rattle.property_closure.specs.Relations.{as_id, as_property, Tells, ArePlainWithin, IsAdjacency, AreAbove}
 use Rattle.number_sets.proofs.Members.{one_more_item, one_more_taken}
 use Rattle.number_sets.proofs.Searching.{led}
+use Rattle.property_closure.proofs.Reflexives.{number_of}
 
 -- ---- lists of what forms tell
 
@@ -74,11 +74,6 @@ Leads lists c d = LeadsTo (λ (m : ℕ). m) (λ (m : ℕ). m) (c ∷ []) lists d
 lifts : (n : ℕ) (forms : List Form) (lists : List (List ℕ)) → IsAdjacency n forms lists → (c d : ℕ) → Leads lists c d → IsAtOrBelow forms (as_property c) (as_property d)
 lifts n forms lists told c _ (itself x h) = subst (λ y. IsAtOrBelow forms (as_property c) (as_property y)) (Contains-one c x h) same
 lifts n forms lists told c _ (onward b d h t) = step (as_id b) (as_id d) (lifts n forms lists told c b h) ((told.exact b d).0 t)
-
--- the number of a property
-number_of : PropId2 → ℕ
-number_of (Property p) = p.0
-number_of (Partial n) = n
 
 -- what is above a property is a property, and the lists lead there
 pub below_leads : (n : ℕ) (forms : List Form) (lists : List (List ℕ)) → IsAdjacency n forms lists → (c : ℕ) (q : PropId2) → IsAtOrBelow forms (as_property c) q → (d : ℕ) × (q ≡ as_property d) × Leads lists c d

@@ -13,6 +13,7 @@ use Rattle.number_sets.proofs.Members.{one_more_taken, all_taken, has_within, ha
 
 -- ---- properties put into a set
 
+-- the number of a property
 abbrev pub number_of : PropId2 → ℕ
 number_of (Property p) = p.0
 number_of (Partial n) = n
