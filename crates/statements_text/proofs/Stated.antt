@@ -1,6 +1,6 @@
 -- The trees of statements state these.
-use Rattle.std.proofs.Common.{◌≡◌, ℕ, ◌+◌, ◌≤◌, true, false, List, [], ◌∷◌, Option, Some, length, refl, ap, ◌∙◌, arith}
-use Rattle.std.specs.Prelude.{codes, nat_lt}
+use Rattle.std.proofs.Common.{◌≡◌, ℕ, ◌+◌, ◌≤◌, false, List, [], ◌∷◌, Option, Some, length, refl, ap, ◌∙◌, arith}
+use Rattle.std.specs.Prelude.{codes}
 use Rattle.std.proofs.lemmas.Bool.{false≢true}
 use Rattle.axioms.specs.Axiom.{SubClassOf, EquivalentClasses, DisjointClasses, SubPropertyOf, EquivalentProperties, PropertyDomain, TransitiveProperty, ReflexiveProperty, ClassAssertion, PropertyAssertion, SameIndividuals, DifferentIndividuals, NegativePropertyAssertion}
 use Rattle.axioms.specs.Expression.{ClassExpression, Named, Intersection, SomeValues, Iri}
@@ -16,6 +16,7 @@ use Rattle.shapes.specs.declared.expected.Expected.TheVariants.{Axiom as AnAxiom
 use Rattle.shapes.specs.declared.form.Form as form_type
 use Rattle.shapes.specs.declared.form.Form.TheVariants as forms
 use Rattle.statements_text.specs.Terms.{Word, IsWritable, AllWritable, term_text, line_text, term_tree, later_trees, lines_trees, words, class_term, class_terms, chain_term, axiom_term, statement_term, statement_terms}
+use Rattle.statements_text.proofs.Faultless.{two_fit}
 use Rattle.statements_text.proofs.Meant.{class_again, classes_again, iris_again, chain_again}
 
 -- ---- what comes first is no annotation
@@ -38,9 +39,6 @@ by_form : (version : Version) (at : ℕ) (keyword : List ℕ) (first : Tree) (re
 by_form version at keyword first rest form is plain =
     ap (λ (ts : Trees). meaning (axiom_by version (form_of version AnAxiom keyword) ts)) (behind first rest plain)
     ∙ ap (λ (f : Option form_type.Form). meaning (axiom_by version f (Then first rest))) is
-
-two_fit : (n : ℕ) → nat_lt 1 (n + 1 + 1) ≡ true
-two_fit n = grind arith
 
 -- ---- each form
 
