@@ -17,7 +17,6 @@ use axioms::{ExprId, Memory};
 use engine::Indexed;
 use number_sets::Row;
 use program::Side;
-use std::alloc::Global;
 
 /// The named classes that are marked, in byte order.
 pub(crate) fn classes_marked<'a>(indexed: &Indexed<'a>, marks: &Row) -> Result<Vec<&'a str>, Memory>

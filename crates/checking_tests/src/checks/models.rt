@@ -5,7 +5,6 @@ use crate::documents::ontology_of;
 use axioms::Ontology;
 use cert_check::Verdict;
 use std::alloc::Global;
-use std::process::Abort;
 use std::random::RandomSource;
 use std::test::Fail;
 
