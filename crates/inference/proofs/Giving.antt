@@ -10,7 +10,7 @@ use Rattle.facts.specs.declared.contexts.Fact.{Fact}
 use Rattle.facts.specs.declared.contexts.Fact.TheVariants.{In, Edge}
 use Rattle.facts.specs.Closure.{Problem, AreDisjointAt, FromTwo, Carries, in_thing, in_itself, by_form, unsatisfiable, loop, apart, nothing}
 use Rattle.indexes.specs.Keys.{class_key, property_key, by_first, by_second, by_filler, by_chain}
-use Rattle.inference.specs.Visits.{GiveNothing, NoneUnder, IsEdge, IsBy, IsNotCarried, IsOfClasses}
+use Rattle.inference.specs.Visits.{GiveNothing, NoneUnder, IsEdge, IsBy, IsNotCarried, IsOfClass, IsOfClasses}
 use Rattle.inference.specs.Derivations.{Derived}
 use Rattle.inference.specs.Completeness.{DrawnUpToRedundancy}
 
@@ -96,6 +96,15 @@ prefix k (N12 _ _ _) x y z v p q h w = absurd w
 
 pub no_classes : (k : Problem) (a b : Class2) (x y : Context) → ((n : ℕ) → IsOfClasses k.forms a b n → ⊥) → ((l : ℕ) → AreDisjointAt k l a b → ⊥) → GiveNothing k (In a x) (In b y)
 no_classes k a b x y none lists = by_form_or_list k a b x y (λ n form h at w. none n ((form, at, first_operand k form a b x y h w), (form, at, second_operand k form a b x y h w))) lists
+
+-- a class that is in no list with the other, and begins or ends no intersection with it
+pub no_class_before : (k : Problem) (a b : Class2) (y : Context) (f : Fact) → IsOfClass a f → ((n : ℕ) → IsOfClasses k.forms a b n → ⊥) → ((l : ℕ) → AreDisjointAt k l a b → ⊥) → GiveNothing k f (In b y)
+no_class_before k a b y (In c x) of none lists = rw (of) (no_classes k a b x y none lists)
+no_class_before k a b y (Edge x r z) of none lists = absurd of
+
+pub no_class_behind : (k : Problem) (a b : Class2) (y : Context) (f : Fact) → IsOfClass a f → ((n : ℕ) → IsOfClasses k.forms b a n → ⊥) → ((l : ℕ) → AreDisjointAt k l b a → ⊥) → GiveNothing k (In b y) f
+no_class_behind k a b y (In c x) of none lists = rw (of) (no_classes k b a y x none lists)
+no_class_behind k a b y (Edge x r z) of none lists = absurd of
 
 no_filler : (k : Problem) (x y z : Context) (r : PropId2) (c : Class2) → (c ≡ nothing → ⊥) → NoneUnder by_filler k.forms (class_key c) → GiveNothing k (Edge x r y) (In c z)
 no_filler k x y z r c other none = by_form_or_back k (Edge x r y) (In c z) tt (λ n form h at w. none n (form, at, filler k form x y z r c h w)) (λ h b. other b.0)

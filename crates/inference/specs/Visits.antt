@@ -1,5 +1,5 @@
 -- Which forms are visited for facts.
-use Rattle.std.specs.Prelude.{◌≡◌, ℕ, ◌<◌, Bool, true, List, [], ◌∷◌, length, slice_get, Option, Some, None}
+use Rattle.std.specs.Prelude.{◌≡◌, ℕ, ◌<◌, Bool, true, false, List, [], ◌∷◌, length, slice_get, Option, Some, None}
 use Rattle.std.specs.List.{Contains}
 use Rattle.indexes.specs.declared.keys.Key.{Key}
 use Rattle.normal_forms.specs.declared.forms.Form.{Form}
@@ -12,10 +12,12 @@ use Rattle.facts.specs.declared.contexts.Fact.{Fact}
 use Rattle.facts.specs.declared.contexts.Fact.TheVariants.{In, Edge}
 use Rattle.facts.specs.Closure.{Problem, Concludes, Gives}
 use Rattle.indexes.specs.Keys.{by_chain, by_denied, by_end, by_filler, by_first, by_restricted, by_second, by_target, class_key, individual_key, property_key}
+use Rattle.indexes.specs.Apart.{IsInList}
 use Rattle.indexes.specs.FormsUnderKeys.{IsUnder}
 use Rattle.property_closure.specs.PropertyClosures.{Known, Has}
 use Rattle.inference.specs.Completeness.{AreJoined, IsDrawnFrom, IsGivenBy}
 use Rattle.inference.specs.Derivations.{Derived}
+use Rattle.inference.specs.declared.pairing.Operand.{Operand}
 use Rattle.number_sets.specs.Members.{has}
 use Rattle.normal_forms.specs.declared.forms.Form.TheVariants.{N6}
 
@@ -35,6 +37,17 @@ IsDeniedBetween forms x y n = ⊥
 -- no form of that kind has the key
 abbrev pub NoneUnder : (Form → Option Key) → List Form → Key → Type 0
 NoneUnder key forms at = (n : ℕ) → IsUnder key forms at n → ⊥
+
+-- what is said of the class is so where it is said to be in nothing
+pub record IsSaid (k : Problem) (o : Operand) : Type 0 where
+  pub begins : o.begins ≡ false → NoneUnder by_first k.forms (class_key o.class)
+  pub ends : o.ends ≡ false → NoneUnder by_second k.forms (class_key o.class)
+  pub listed : o.is_listed ≡ false → IsInList k o.class → ⊥
+
+-- the fact puts that class into a context
+abbrev pub IsOfClass : Class2 → Fact → Type 0
+IsOfClass a (In b x) = b ≡ a
+IsOfClass a (Edge x r y) = ⊥
 
 -- each of the numbers is that of a fact of that kind
 abbrev pub AreAll : (Fact → Type 0) → List Fact → List ℕ → Type 0

@@ -142,8 +142,8 @@ impl Rules<'_> {
             number,
             fact: facts.get(number),
         };
-        self.draw_pair(facts, hand, other)?;
-        self.draw_pair(facts, other, hand)?;
+        self.draw_two(facts, hand, other)?;
+        self.draw_two(facts, other, hand)?;
         Ok(())
     }
 

@@ -117,7 +117,7 @@ impl Rules<'_> {
                 number: place,
                 fact: nothing,
             };
-            self.draw_pair(facts, edge, behind)?;
+            self.draw_two(facts, edge, behind)?;
         }
         Ok(())
     }

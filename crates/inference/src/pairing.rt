@@ -5,7 +5,7 @@ ghost use Rattle.facts.specs.declared.contexts.Fact.{Fact as Fact2};
 ghost use Rattle.inference.specs.Derivations.{IsDerived};
 ghost use Rattle.inference.specs.Draws.{Draws};
 ghost use Rattle.inference.specs.Completeness.{IsRedundantAsSecond, Drawn, IsDrawnIn, AreDrawnIn, MeetsOperands, MeetEachOther, AreMet, AreMetBefore, AreMetBehind};
-ghost use Rattle.inference.specs.Visits.{AreAll, AreWithin, GiveNothing, IsClassFact, IsEdge, IsOfClasses};
+ghost use Rattle.inference.specs.Visits.{AreAll, AreWithin, GiveNothing, IsClassFact, IsEdge, IsOfClass, IsOfClasses, IsSaid};
 ghost use Rattle.inference.specs.Premises.{class_fact, edge_fact};
 ghost use Rattle.inference.specs.Marks.{HasAboveOf, HasEndsOf, HasFilledOf, HasSecondsOf};
 ghost use Rattle.inference.specs.Meetings.{IsWithin, AllListedAreMet, HasServed};
@@ -26,36 +26,90 @@ fn source_of(fact: Fact) -> Context {
     }
 }
 
+/// A class, and what the forms and lists say of it: where they say nothing, it gives nothing with another class.
+#[derive(Clone, Copy)]
+struct Operand {
+    class: Class2,
+    /// Whether an intersection begins with it.
+    begins: bool,
+    /// Whether an intersection ends with it.
+    ends: bool,
+    /// Whether a list of disjoint classes has it.
+    is_listed: bool,
+}
+
 impl Rules<'_> {
-    /// Whether an intersection begins with the first of two classes, and one ends with the second.
-    fn may_intersect(&self, first: Class2, second: Class2) -> bool
-        ensures { result ≡ false → (n : ℕ) → IsOfClasses self.now.problem.now.forms first second n → ⊥ }
+    /// The class, with what is said of it.
+    fn operand(&self, class: Class2) -> Operand
+        ensures class { result.class ≡ class }
+        ensures said { IsSaid self.now.problem.now result }
     {
-        self.problem.begins_intersection(first) && self.problem.ends_intersection(second)
+        Operand {
+            class,
+            begins: self.problem.begins_intersection(class),
+            ends: self.problem.ends_intersection(class),
+            is_listed: self.problem.is_in_list(class),
+        }
     }
 
-    /// Whether each of two classes is in a list of disjoint classes.
-    fn may_be_disjoint(&self, first: Class2, second: Class2) -> bool
-        ensures { result ≡ false → (l : ℕ) → AreDisjointAt self.now.problem.now l first second → ⊥ }
+    /// Whether an intersection may begin with the one class and end with the other.
+    fn may_begin(&self, operand: Operand, other: Class2) -> bool
+        requires { IsSaid self.now.problem.now operand }
+        ensures { result ≡ false → (n : ℕ) → IsOfClasses self.now.problem.now.forms operand.class other n → ⊥ }
     {
-        self.problem.is_in_list(first) && self.problem.is_in_list(second)
+        operand.begins && self.problem.ends_intersection(other)
     }
 
-    /// Whether the two facts may give something in this order: two classes give nothing where no intersection begins with the first,
-    /// or none ends with the second, and no list of disjoint classes has the one, or none has the other.
-    fn may_give(&self, first: Fact, second: Fact) -> bool
-        ensures { result ≡ false → GiveNothing self.now.problem.now first second }
+    /// Whether an intersection may begin with the other class and end with the one.
+    fn may_end(&self, operand: Operand, other: Class2) -> bool
+        requires { IsSaid self.now.problem.now operand }
+        ensures { result ≡ false → (n : ℕ) → IsOfClasses self.now.problem.now.forms other operand.class n → ⊥ }
     {
-        match (first, second) {
-            (Fact::In(a, _), Fact::In(b, _)) => {
-                self.may_intersect(a, b) || self.may_be_disjoint(a, b)
+        operand.ends && self.problem.begins_intersection(other)
+    }
+
+    /// Whether each of the two is in a list of disjoint classes.
+    fn may_be_apart(&self, operand: Operand, other: Class2) -> bool
+        requires { IsSaid self.now.problem.now operand }
+        ensures before { result ≡ false → (l : ℕ) → AreDisjointAt self.now.problem.now l operand.class other → ⊥ }
+        ensures behind { result ≡ false → (l : ℕ) → AreDisjointAt self.now.problem.now l other operand.class → ⊥ }
+    {
+        operand.is_listed && self.problem.is_in_list(other)
+    }
+
+    /// Whether the class in a context may give something as the first of two, with that fact as the second.
+    fn may_give_before(&self, operand: Operand, fact: Fact) -> bool
+        requires { IsSaid self.now.problem.now operand }
+        ensures { result ≡ false → (f : Fact2) → IsOfClass operand.class f → GiveNothing self.now.problem.now f fact }
+    {
+        match fact {
+            Fact::In(other, _) => {
+                self.may_begin(operand, other) || self.may_be_apart(operand, other)
             }
-            _ => true,
+            Fact::Edge(..) => true,
+        }
+    }
+
+    /// Whether the class in a context may give something as the second of two, with that fact as the first.
+    fn may_give_behind(&self, operand: Operand, fact: Fact) -> bool
+        requires { IsSaid self.now.problem.now operand }
+        ensures { result ≡ false → (f : Fact2) → IsOfClass operand.class f → GiveNothing self.now.problem.now fact f }
+    {
+        match fact {
+            Fact::In(other, _) => {
+                self.may_end(operand, other) || self.may_be_apart(operand, other)
+            }
+            Fact::Edge(..) => true,
         }
     }
 
     /// Adds what two facts give in this order.
-    fn draw_two(&self, facts: &mut KnownFacts, first: Premise, second: Premise) -> Result<(), Stop>
+    pub(crate) fn draw_two(
+        &self,
+        facts: &mut KnownFacts,
+        first: Premise,
+        second: Premise,
+    ) -> Result<(), Stop>
         requires derived { IsDerived self.now.problem.now facts.old }
         requires first { slice_get facts.old.facts first.number ≡ Some first.fact }
         requires second { slice_get facts.old.facts second.number ≡ Some second.fact }
@@ -71,18 +125,20 @@ impl Rules<'_> {
     }
 
     /// Adds what two facts give in this order, if they may give anything.
-    pub(crate) fn draw_pair(
+    fn draw_if(
         &self,
         facts: &mut KnownFacts,
+        may_give: bool,
         first: Premise,
         second: Premise,
     ) -> Result<(), Stop>
         requires derived { IsDerived self.now.problem.now facts.old }
         requires first { slice_get facts.old.facts first.number ≡ Some first.fact }
         requires second { slice_get facts.old.facts second.number ≡ Some second.fact }
+        requires may { may_give ≡ false → GiveNothing self.now.problem.now first.fact second.fact }
         ensures { Draws self.now facts.old facts.new result (Drawn self.now.problem.now (first.fact ∷ second.fact ∷ []) facts.new.facts) }
     {
-        if self.may_give(first.fact, second.fact) {
+        if may_give {
             self.draw_two(facts, first, second)?;
         }
         Ok(())
@@ -113,26 +169,44 @@ impl Rules<'_> {
         Ok(())
     }
 
-    /// Adds what two facts give, whichever is first. With itself a fact has one order.
-    fn meet(&self, facts: &mut KnownFacts, first: Premise, second: Premise) -> Result<(), Stop>
+    /// Adds what the class in a context gives with another fact, whichever is first. With itself a fact has one order.
+    fn meet(
+        &self,
+        facts: &mut KnownFacts,
+        operand: Operand,
+        first: Premise,
+        second: Premise,
+    ) -> Result<(), Stop>
         requires derived { IsDerived self.now.problem.now facts.old }
         requires first { slice_get facts.old.facts first.number ≡ Some first.fact }
         requires second { slice_get facts.old.facts second.number ≡ Some second.fact }
+        requires said { IsSaid self.now.problem.now operand }
+        requires class { IsOfClass operand.class first.fact }
         ensures { Draws self.now facts.old facts.new result (MeetEachOther self.now.problem.now first.fact second.fact facts.new) }
     {
-        self.draw_pair(facts, first, second)?;
+        let before = self.may_give_before(operand, second.fact);
+        self.draw_if(facts, before, first, second)?;
         if first.number == second.number {
             return Ok(());
         }
-        self.draw_pair(facts, second, first)?;
+        let behind = self.may_give_behind(operand, second.fact);
+        self.draw_if(facts, behind, second, first)?;
         Ok(())
     }
 
-    /// Adds what the fact of that number gives with those of the other numbers.
-    fn meet_all(&self, facts: &mut KnownFacts, hand: Premise, numbers: &[u32]) -> Result<(), Stop>
+    /// Adds what the class in a context gives, by the fact of that number, with the facts of the other numbers.
+    fn meet_all(
+        &self,
+        facts: &mut KnownFacts,
+        operand: Operand,
+        hand: Premise,
+        numbers: &[u32],
+    ) -> Result<(), Stop>
         requires derived { IsDerived self.now.problem.now facts.old }
         requires hand { slice_get facts.old.facts hand.number ≡ Some hand.fact }
         requires numbers { AreWithin facts.old.facts numbers.now }
+        requires said { IsSaid self.now.problem.now operand }
+        requires class { IsOfClass operand.class hand.fact }
         ensures { Draws self.now facts.old facts.new result (AreMet self.now.problem.now hand.fact facts.old.facts numbers.now facts.new) }
     {
         for number in numbers {
@@ -140,7 +214,7 @@ impl Rules<'_> {
                 number: *number,
                 fact: facts.get(*number),
             };
-            self.meet(facts, hand, partner)?;
+            self.meet(facts, operand, hand, partner)?;
         }
         Ok(())
     }
@@ -222,11 +296,12 @@ impl Rules<'_> {
                 self.meet_apart(facts, hand, &few.apart, numbers)?;
             }
             None => {
+                let operand = self.operand(hand.class);
                 let hand = Premise {
                     number: hand.number,
                     fact: Fact::In(hand.class, hand.context),
                 };
-                self.meet_all(facts, hand, numbers)?;
+                self.meet_all(facts, operand, hand, numbers)?;
             }
         }
         Ok(())

@@ -12,11 +12,11 @@ returns-then-first-second c =
     let k = c.args.self.now.problem.now in
     let f = c.args.first.fact in
     let g = c.args.second.fact in
-    let new = c.draw_pair.new.facts in
+    let new = c.draw_if.new.facts in
     let same : f ≡ g = one_value _ f g c.requires.first (subst (λ (n : ℕ). slice_get c.args.facts.now.facts n ≡ Some g) (sym c.if-first-second.true) c.requires.second) in
     let turned : f ∷ g ∷ [] ≡ g ∷ f ∷ [] = ap₂ (λ (x y : Fact). x ∷ y ∷ []) same (sym same) in
-    let drawn = c.in_ok-draw_pair.ensures.drawn in
-    draws c.draw_pair.ensures.grows (record {
+    let drawn = c.in_ok-draw_if.ensures.drawn in
+    draws c.draw_if.ensures.grows (record {
       first = all_drawn k (f ∷ g ∷ []) new drawn;
       second = all_drawn k (g ∷ f ∷ []) new (subst (λ (older : List Fact). Drawn k older new.facts) turned drawn);
     })
@@ -24,8 +24,8 @@ returns-then-first-second c =
 pub returns : goal.returns
 returns c =
     let k = c.args.self.now.problem.now in
-    let new = c.draw_pair-2.new.facts in
-    draws (grows_trans c.draw_pair.ensures.grows c.draw_pair-2.ensures.grows) (record {
-      first = all_drawn k (c.args.first.fact ∷ c.args.second.fact ∷ []) new (drawn_still c.draw_pair-2.ensures.grows _ c.in_ok-draw_pair.ensures.drawn);
-      second = all_drawn k (c.args.second.fact ∷ c.args.first.fact ∷ []) new c.in_ok-draw_pair-2.ensures.drawn;
+    let new = c.draw_if-2.new.facts in
+    draws (grows_trans c.draw_if.ensures.grows c.draw_if-2.ensures.grows) (record {
+      first = all_drawn k (c.args.first.fact ∷ c.args.second.fact ∷ []) new (drawn_still c.draw_if-2.ensures.grows _ c.in_ok-draw_if.ensures.drawn);
+      second = all_drawn k (c.args.second.fact ∷ c.args.first.fact ∷ []) new c.in_ok-draw_if-2.ensures.drawn;
     })
