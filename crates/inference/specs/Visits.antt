@@ -39,7 +39,7 @@ abbrev pub NoneUnder : (Form → Option Key) → List Form → Key → Type 0
 NoneUnder key forms at = (n : ℕ) → IsUnder key forms at n → ⊥
 
 -- what is said of the class is so where it is said to be in nothing
-pub record IsSaid (k : Problem) (o : Operand) : Type 0 where
+pub record IsOperandBy (k : Problem) (o : Operand) : Type 0 where
   pub begins : o.begins ≡ false → NoneUnder by_first k.forms (class_key o.class)
   pub ends : o.ends ≡ false → NoneUnder by_second k.forms (class_key o.class)
   pub listed : o.is_listed ≡ false → IsInList k o.class → ⊥

@@ -5,7 +5,7 @@ ghost use Rattle.facts.specs.declared.contexts.Fact.{Fact as Fact2};
 ghost use Rattle.inference.specs.Derivations.{IsDerived};
 ghost use Rattle.inference.specs.Draws.{Draws};
 ghost use Rattle.inference.specs.Completeness.{IsRedundantAsSecond, Drawn, IsDrawnIn, AreDrawnIn, MeetsOperands, MeetEachOther, AreMet, AreMetBefore, AreMetBehind};
-ghost use Rattle.inference.specs.Visits.{AreAll, AreWithin, GiveNothing, IsClassFact, IsEdge, IsOfClass, IsOfClasses, IsSaid};
+ghost use Rattle.inference.specs.Visits.{AreAll, AreWithin, GiveNothing, IsClassFact, IsEdge, IsOfClass, IsOfClasses, IsOperandBy};
 ghost use Rattle.inference.specs.Premises.{class_fact, edge_fact};
 ghost use Rattle.inference.specs.Marks.{HasAboveOf, HasEndsOf, HasFilledOf, HasSecondsOf};
 ghost use Rattle.inference.specs.Meetings.{IsWithin, AllListedAreMet, HasServed};
@@ -42,7 +42,7 @@ impl Rules<'_> {
     /// The class, with what is said of it.
     fn operand(&self, class: Class2) -> Operand
         ensures class { result.class ≡ class }
-        ensures said { IsSaid self.now.problem.now result }
+        ensures said { IsOperandBy self.now.problem.now result }
     {
         Operand {
             class,
@@ -54,7 +54,7 @@ impl Rules<'_> {
 
     /// Whether an intersection may begin with the one class and end with the other.
     fn may_begin(&self, operand: Operand, other: Class2) -> bool
-        requires { IsSaid self.now.problem.now operand }
+        requires { IsOperandBy self.now.problem.now operand }
         ensures { result ≡ false → (n : ℕ) → IsOfClasses self.now.problem.now.forms operand.class other n → ⊥ }
     {
         operand.begins && self.problem.ends_intersection(other)
@@ -62,7 +62,7 @@ impl Rules<'_> {
 
     /// Whether an intersection may begin with the other class and end with the one.
     fn may_end(&self, operand: Operand, other: Class2) -> bool
-        requires { IsSaid self.now.problem.now operand }
+        requires { IsOperandBy self.now.problem.now operand }
         ensures { result ≡ false → (n : ℕ) → IsOfClasses self.now.problem.now.forms other operand.class n → ⊥ }
     {
         operand.ends && self.problem.begins_intersection(other)
@@ -70,7 +70,7 @@ impl Rules<'_> {
 
     /// Whether each of the two is in a list of disjoint classes.
     fn may_be_apart(&self, operand: Operand, other: Class2) -> bool
-        requires { IsSaid self.now.problem.now operand }
+        requires { IsOperandBy self.now.problem.now operand }
         ensures before { result ≡ false → (l : ℕ) → AreDisjointAt self.now.problem.now l operand.class other → ⊥ }
         ensures behind { result ≡ false → (l : ℕ) → AreDisjointAt self.now.problem.now l other operand.class → ⊥ }
     {
@@ -79,7 +79,7 @@ impl Rules<'_> {
 
     /// Whether the class in a context may give something as the first of two, with that fact as the second.
     fn may_give_before(&self, operand: Operand, fact: Fact) -> bool
-        requires { IsSaid self.now.problem.now operand }
+        requires { IsOperandBy self.now.problem.now operand }
         ensures { result ≡ false → (f : Fact2) → IsOfClass operand.class f → GiveNothing self.now.problem.now f fact }
     {
         match fact {
@@ -92,7 +92,7 @@ impl Rules<'_> {
 
     /// Whether the class in a context may give something as the second of two, with that fact as the first.
     fn may_give_behind(&self, operand: Operand, fact: Fact) -> bool
-        requires { IsSaid self.now.problem.now operand }
+        requires { IsOperandBy self.now.problem.now operand }
         ensures { result ≡ false → (f : Fact2) → IsOfClass operand.class f → GiveNothing self.now.problem.now fact f }
     {
         match fact {
@@ -180,7 +180,7 @@ impl Rules<'_> {
         requires derived { IsDerived self.now.problem.now facts.old }
         requires first { slice_get facts.old.facts first.number ≡ Some first.fact }
         requires second { slice_get facts.old.facts second.number ≡ Some second.fact }
-        requires said { IsSaid self.now.problem.now operand }
+        requires said { IsOperandBy self.now.problem.now operand }
         requires class { IsOfClass operand.class first.fact }
         ensures { Draws self.now facts.old facts.new result (MeetEachOther self.now.problem.now first.fact second.fact facts.new) }
     {
@@ -205,7 +205,7 @@ impl Rules<'_> {
         requires derived { IsDerived self.now.problem.now facts.old }
         requires hand { slice_get facts.old.facts hand.number ≡ Some hand.fact }
         requires numbers { AreWithin facts.old.facts numbers.now }
-        requires said { IsSaid self.now.problem.now operand }
+        requires said { IsOperandBy self.now.problem.now operand }
         requires class { IsOfClass operand.class hand.fact }
         ensures { Draws self.now facts.old facts.new result (AreMet self.now.problem.now hand.fact facts.old.facts numbers.now facts.new) }
     {

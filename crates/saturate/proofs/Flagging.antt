@@ -13,7 +13,8 @@ use Rattle.normal_forms.specs.declared.forms.Class2.{Class2}
 use Rattle.normal_forms.specs.declared.forms.Form.{Form}
 use Rattle.facts.specs.Closure.{Problem}
 use Rattle.normal_forms.proofs.Filters.{kept as is_kept_of, from_kept, passes}
-use Rattle.saturate.specs.Requests.{IsAsked, IsAskedAnew, IsAskedByForm, IsNew, IsOfClass, IsOfNamed, IsOfNamedClass, IsSuchAt, NamesClass, NewFormAsks}
+use Rattle.inference.specs.Visits.{IsOfClass}
+use Rattle.saturate.specs.Requests.{IsAsked, IsAskedAnew, IsAskedByForm, IsNew, IsOfNamed, IsOfNamedClass, IsSuchAt, NamesClass, NewFormAsks}
 use Rattle.saturate.specs.Flags.{AreFlaggedToo, AreThoseFlagged, HasOneFlagMore, IsFlagged, is_flagged, is_kept, kept}
 use Rattle.saturate.specs.Growth.{KeepsServed}
 use Rattle.inference.proofs.Lists.{one_value}

@@ -83,12 +83,7 @@ AsksNothing form = (forms : List Form) (f : Fact) → ¬ Asks forms form f
 abbrev pub AsksForNoEdge : Form → Type 0
 AsksForNoEdge form = (forms : List Form) (x : Context) (p : PropId2) (y : Context) → ¬ Asks forms form (Edge x p y)
 
--- the fact puts something into the class
-abbrev pub IsOfClass : Class2 → Fact → Type 0
-IsOfClass a (In b x) = b ≡ a
-IsOfClass a (Edge x p y) = ⊥
-
--- it puts something into a class that the form names
+-- the fact puts something into a class that the form names
 abbrev pub IsOfNamed : Form → Fact → Type 0
 IsOfNamed form (In a x) = NamesClass form a
 IsOfNamed form (Edge x p y) = ⊥

@@ -1,6 +1,7 @@
 //! Facts of the classes that forms name, flagged without a look at each fact.
 ghost use Rattle.saturate.specs.Flags.{AreFlaggedToo, IsFlagged};
-ghost use Rattle.saturate.specs.Requests.{AskByClass, AsksByClass, IsOfClass, IsOfNamed, IsOfNamedClass, IsSuchAt, BeginsFresh, problem_of};
+ghost use Rattle.inference.specs.Visits.{IsOfClass};
+ghost use Rattle.saturate.specs.Requests.{AskByClass, AsksByClass, IsOfNamed, IsOfNamedClass, IsSuchAt, BeginsFresh, problem_of};
 ghost use Rattle.std.specs.Prelude.{◌≡◌, ◌⊎◌, ◌↔◌, ◌<◌, ◌≤◌, ℕ, IfOk, IsTrue, OnOk, length, true};
 
 use crate::flags::Flags;

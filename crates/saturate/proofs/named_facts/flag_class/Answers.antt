@@ -1,6 +1,6 @@
 use Rattle.std.proofs.Common.{◌+◌, ◌∙◌, refl, sym, arith}
 use Rattle.std.proofs.lemmas.Bool.{false≢true}
-use Rattle.saturate.specs.Requests.{IsOfClass}
+use Rattle.inference.specs.Visits.{IsOfClass}
 use Rattle.saturate.proofs.Flagging.{IsSuchBelow, flagged_one, none_of_class, none_too, not_one, passed, passed_all}
 use Rattle.saturate.proofs.named_facts.flag_class.Goals as goal
 use Rattle.saturate.proofs.named_facts.flag_class.Goals.{then-is_of+in_ok-add, else-is_of}

@@ -1,6 +1,6 @@
 use Rattle.std.proofs.Common.{◌≡◌, ◌-◌, length}
 use Rattle.saturate.specs.Flags.{AreFlaggedToo}
-use Rattle.saturate.specs.Requests.{IsOfClass}
+use Rattle.inference.specs.Visits.{IsOfClass}
 use Rattle.saturate.proofs.Flagging.{IsSuchBelow}
 use Rattle.saturate.proofs.named_facts.flag_class.Given as goal
 

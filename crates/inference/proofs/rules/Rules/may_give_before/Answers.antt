@@ -1,4 +1,3 @@
-use Rattle.facts.specs.declared.contexts.Fact.TheVariants.{In}
 use Rattle.inference.proofs.Giving.{no_class_before}
 use Rattle.inference.proofs.rules.Rules.may_give_before.Goals as goal
 
