@@ -2,7 +2,7 @@
 use Rattle.std.proofs.Common.{◌≡◌, ℕ, zero, suc, List, [], ◌∷◌, refl, ap, ap₂, ◌∙◌, inl, inr, ◌⊎◌}
 use Rattle.std.proofs.lemmas.Bool.{cases_eq}
 use Rattle.std.proofs.lemmas.Option.{none-some, same_Some}
-use Rattle.certificate.specs.Certificate.{Subject, Expression, Individual, Conclusion, Sub, Edge, Same, Line, source_of}
+use Rattle.certificate.specs.Certificate.{Subject, Expression, Individual, Conclusion, Sub, Edge, Same, Line}
 use Rattle.cert_check.specs.Derivation.{HasLine}
 use Rattle.certificate.specs.Writability.{subject_number}
 
@@ -13,6 +13,11 @@ same_subject (Individual m) (Individual n) =
     elim (cases_eq m n) [ inl e ↦ inl (ap (λ k. Individual k) e) | inr h ↦ inr (λ e. h (ap subject_number e)) ]
 same_subject (Expression m) (Individual n) = inr (λ e. cc)
 same_subject (Individual m) (Expression n) = inr (λ e. cc)
+
+source_of : Conclusion → Subject
+source_of (Sub x c) = x
+source_of (Edge x r y) = x
+source_of (Same a b) = Individual a
 
 number_of : Conclusion → ℕ
 number_of (Sub x c) = c
