@@ -1,7 +1,7 @@
 -- Marks that are made step after step, and those on the numbers that facts give.
-use Rattle.std.proofs.Common.{◌≡◌, ◌↔◌, ℕ, ◌+◌, ◌<◌, ◌≤◌, ◌⊎◌, inl, inr, ⊎_elim, Bool, true, false, List, length, replicate, slice_get, Option, Some, None, Contains, refl, sym, ap, ◌∙◌, subst, arith, below_more}
+use Rattle.std.proofs.Common.{◌≡◌, ◌↔◌, ℕ, suc, ◌+◌, ◌<◌, ◌≤◌, ◌⊎◌, inl, inr, ⊎_elim, Bool, true, false, List, length, replicate, slice_get, Option, Some, None, Contains, refl, sym, ap, ◌∙◌, subst, arith, below_more}
 use Rattle.std.specs.Prelude.{slice_set}
-use Rattle.std.proofs.lemmas.Bool.{cases_lt, false≢true}
+use Rattle.std.proofs.lemmas.Bool.{false≢true}
 use Rattle.std.proofs.lemmas.List.{length-replicate}
 use Rattle.std.proofs.lemmas.Option.{none-some, same_Some, slice_get_within}
 use Rattle.lemmas.proofs.Members.{slice_get-from_Contains}
@@ -12,7 +12,9 @@ use Rattle.facts.specs.declared.contexts.Context.{Context}
 use Rattle.facts.specs.declared.contexts.Context.TheVariants as contexts
 use Rattle.facts.specs.declared.contexts.Fact.{Fact}
 use Rattle.facts.specs.declared.contexts.Fact.TheVariants.{In}
-use Rattle.inference.specs.Tags.{NoneIn}
+use Rattle.inference.specs.declared.predicates.Predicate.TheVariants.{Class}
+use Rattle.inference.specs.Predicates.{IsLast, SaysAt, predicate_of}
+use Rattle.inference.proofs.Listing.{none_from, on_from}
 use Rattle.normal_forms.specs.declared.forms.Class2.{Class2}
 use Rattle.normal_forms.specs.declared.forms.Class2.TheVariants.{Expr}
 use Rattle.indexes.specs.FactIndex.{IsIn}
@@ -59,20 +61,6 @@ module _ (gives : ℕ → ℕ → Type 0) (start : List Bool) where
     λ h. step.1 (⊎_elim (λ o. inl o) (λ g. inr ((only n).0 g)) h),
   )))
 
-  -- steps that give nothing are passed over
-  pub passed : (from to : ℕ) (marks : List Bool) → from ≤ to → ((j n : ℕ) → from ≤ j → j < to → gives j n → ⊥) → AreMarksAfter from marks → AreMarksAfter to marks
-  passed from to marks low none was = record {
-    long = was.long;
-    exact = λ n there.
-        let before = was.exact n there in (
-          λ mark. ⊎_elim (λ s. inl s) (λ v. (let less : v.0 < from = v.1 in inr (v.0, omega (arith, less, low), v.2))) (before.0 mark),
-          λ h. before.1 (⊎_elim
-              (λ s. inl s)
-              (λ v. inr (v.0, ⊎_elim (λ (less : v.0 < from). less) (λ (past : from ≤ v.0). absurd (none v.0 n past v.1 v.2)) (cases_lt v.0 from), v.2))
-              h),
-        );
-  }
-
 -- where nothing was marked at the start
 module _ (gives : ℕ → ℕ → Type 0) (size k : ℕ) (marks : List Bool) (are : AreMarksAfter gives (replicate size false) k marks) where
   pub as_long : length marks ≡ size
@@ -117,52 +105,88 @@ module _ (gives : Fact → ℕ → Type 0) (facts : List Fact) (marks found : Li
         );
   }
 
--- ---- by the facts of one class
+-- ---- by the facts of one class, from the last to the first
 
 -- a fact gives a number only where it puts something into the class
 abbrev pub GivesOf : Class2 → (Fact → ℕ → Type 0) → Type 0
 GivesOf a gives = (f : Fact) (n : ℕ) → gives f n → (x : Context) × (f ≡ In a x)
 
-module _ (gives : Fact → ℕ → Type 0) (facts : List Fact) (a : Class2) (of : GivesOf a gives) where
-  none_at : (from to : ℕ) → NoneIn from to facts a → (j n : ℕ) → from ≤ j → j < to → At facts gives j n → ⊥
-  none_at from to none j n low high v = (let p = of v.0 n v.2 in none p.0 j low high (v.1 ∙ ap (λ (f : Fact). Some f) p.1))
+-- a fact from that number on gives the number
+abbrev pub GivenFrom : (Fact → ℕ → Type 0) → List Fact → ℕ → ℕ → Type 0
+GivenFrom gives facts end n = (j : ℕ) × (end ≤ j) × At facts gives j n
 
-  -- facts of other classes are passed over, and the next one gives the answer
-  pub next_mark : (start : List Bool) (from number : ℕ) (old new : List Bool) (f : Fact) (answer : Option ℕ) → from ≤ number → NoneIn from number facts a → slice_get facts number ≡ Some f → IsOnly (gives f) answer
-      → AreMarksAfter (At facts gives) start from old → length new ≡ length old → ((n : ℕ) → n < length old → IsMarked new n ↔ (IsMarked old n ⊎ (answer ≡ Some n)))
-      → AreMarksAfter (At facts gives) start (number + 1) new
-  next_mark start from number old new f answer low none at only was long adds =
-      one_mark (At facts gives) start number old new answer (passed (At facts gives) start from number old low (none_at from number none) was)
-      (only_at facts gives number f at answer only) long adds
+-- the marks of the start, and those on what the facts from that number on give
+pub record AreMarksFrom (gives : Fact → ℕ → Type 0) (facts : List Fact) (start : List Bool) (end : ℕ) (marks : List Bool) : Type 0 where
+  pub long : length marks ≡ length start
+  pub exact : (n : ℕ) → n < length start → IsMarked marks n ↔ (IsMarked start n ⊎ GivenFrom gives facts end n)
 
-  -- where those that are left are of other classes
-  module _ (k : ℕ) (marks : List Bool) (none : NoneIn k (length facts) facts a) where
-    some_before : (n : ℕ) → SomeFact facts (λ fact. gives fact n) ↔ GivenBefore (At facts gives) k n
-    some_before n = (
-      λ (j, f, at, g). (
-        j,
-        ⊎_elim (λ (less : j < k). less) (λ (past : k ≤ j). absurd (none_at k (length facts) none j n past (slice_get_within facts j f at) (f, at, g))) (cases_lt j k),
-        (f, at, g),
-      ),
-      λ (j, less, (f, at, g)). (j, f, at, g),
+module _ (gives : Fact → ℕ → Type 0) (facts : List Fact) (a : Class2) (of : GivesOf a gives) (start : List Bool) where
+  -- what gives a number says that its context is in the class
+  gives_says : (j n : ℕ) → At facts gives j n → SaysAt (Class a) facts j
+  gives_says j n v = (let p = of v.0 n v.2 in (v.0, v.1, ap predicate_of p.1))
+
+  -- none from the end of the list on gives any
+  pub at_the_end : (end : ℕ) (marks : List Bool) → marks ≡ start → IsLast (Class a) facts (length facts) end → AreMarksFrom gives facts start end marks
+  at_the_end end marks is last = subst (AreMarksFrom gives facts start end) (sym is) (record {
+    long = refl;
+    exact = λ n there. (λ mark. inl mark, λ h. ⊎_elim (λ mark. mark) (λ v. absurd (none_from (Class a) facts end last v.0 v.1 (gives_says v.0 n v.2))) h);
+  })
+
+  -- the last of those before gives the answer
+  pub next_mark : (number end : ℕ) (old new : List Bool) (f : Fact) (answer : Option ℕ) → SaysAt (Class a) facts number → IsLast (Class a) facts number end → slice_get facts number ≡ Some f → IsOnly (gives f) answer
+      → AreMarksFrom gives facts start (suc number) old → length new ≡ length old → ((n : ℕ) → n < length old → IsMarked new n ↔ (IsMarked old n ⊎ (answer ≡ Some n)))
+      → AreMarksFrom gives facts start end new
+  next_mark number end old new f answer says last at only was long adds = record {
+    long = long ∙ was.long;
+    exact = λ n there.
+        let before = was.exact n there in
+        let step = adds n (subst (λ (m : ℕ). n < m) (sym was.long) there) in
+        let own = only_at facts gives number f at answer only n in (
+          λ mark. ⊎_elim
+              (λ o. ⊎_elim (λ s. inl s) (λ v. inr (v.0, omega (arith, v.1, last.within), v.2)) (before.0 o))
+              (λ e. inr (number, last.within, own.1 e))
+              (step.0 mark),
+          λ h. step.1 (⊎_elim
+              (λ s. inl (before.1 (inl s)))
+              (λ v. ⊎_elim
+              (λ w. inl (before.1 (inr (v.0, omega (arith, w.0), v.2))))
+              (λ e. inr (own.0 (subst (λ (j : ℕ). At facts gives j n) e v.2)))
+              ((on_from (Class a) facts number end says last v.0).1 (v.1, gives_says v.0 n v.2)))
+              h),
+        );
+  }
+
+  -- where none is left
+  module _ (marks : List Bool) (are : AreMarksFrom gives facts start 0 marks) where
+    some_given : (n : ℕ) → SomeFact facts (λ fact. gives fact n) ↔ GivenFrom gives facts 0 n
+    some_given n = (
+      λ (j, f, at, g). (j, omega arith, (f, at, g)),
+      λ (j, low, (f, at, g)). (j, f, at, g),
     )
 
-    pub by_class : (among : List Bool) → AreMarksAfter (At facts gives) (replicate (length among) false) k marks → AreGiven gives facts among marks
-    by_class among are = record {
-      long = as_long (At facts gives) (length among) k marks are;
-      exact = λ n mark.
-          let is = given_is (At facts gives) (length among) k marks are n (has_within among n mark) in
-          let some = some_before n in
-          (λ m. some.1 (is.0 m), λ given. is.1 (some.0 given));
-    }
-
-    pub with_class : (start : List Bool) → AreMarksAfter (At facts gives) start k marks → (n : ℕ) → n < length start → IsMarked marks n ↔ (IsMarked start n ⊎ SomeFact facts (λ fact. gives fact n))
-    with_class start are n there =
+    pub with_class : (n : ℕ) → n < length start → IsMarked marks n ↔ (IsMarked start n ⊎ SomeFact facts (λ fact. gives fact n))
+    with_class n there =
         let is = are.exact n there in
-        let some = some_before n in (
+        let some = some_given n in (
           λ m. ⊎_elim (λ s. inl s) (λ v. inr (some.1 v)) (is.0 m),
           λ h. is.1 (⊎_elim (λ s. inl s) (λ given. inr (some.0 given)) h),
         )
+
+    pub by_class : (among : List Bool) → start ≡ replicate (length among) false → AreGiven gives facts among marks
+    by_class among is = record {
+      long = are.long ∙ size;
+      exact = λ n mark.
+          let marked = with_class n (subst (λ (m : ℕ). n < m) (sym size) (has_within among n mark)) in (
+            λ m. ⊎_elim (λ s. absurd (unmarked n s)) (λ given. given) (marked.0 m),
+            λ given. marked.1 (inr given),
+          );
+    }
+      where
+        size : length start ≡ length among
+        size = ap length is ∙ length-replicate {A = Bool} (length among) false
+
+        unmarked : (n : ℕ) → IsMarked start n → ⊥
+        unmarked n s = false≢true (sym (has_none (length among) n) ∙ subst (λ (ms : List Bool). IsMarked ms n) is s)
 
 pub puts_member : (o : Ontology) (e : ExprId) → GivesOf (Expr e) (Answers o (Members e))
 puts_member o e f n puts = (contexts.Individual (record { 0 = n }), puts)

@@ -14,6 +14,7 @@ use axioms::{ExprId, IndId, Memory, Ontology};
 use classification::is_consistent;
 use engine::{Closed, Indexed};
 use facts::{Context, Fact, StoredFact};
+use inference::Predicate;
 use normal_forms::Class2;
 use number_sets::Row;
 
@@ -102,7 +103,7 @@ fn marked_above(indexed: &Indexed<'_>, context: Context, marks: &Row) -> Result<
     Ok(found)
 }
 
-/// Marks the classes that a fact puts in the expression. Facts of other classes are passed over by their tags.
+/// Marks the classes that a fact puts in the expression.
 fn mark_below(indexed: &Indexed<'_>, above: ExprId, found: &mut Row)
     ensures long { length found.new ≡ length found.old }
     ensures exact { (n : ℕ) → n < length found.old → IsMarked found.new n ↔ (IsMarked found.old n ⊎ SomeFact indexed.now.saturation.state.facts (λ fact. PutsClass indexed.now.ontology above.0 fact n)) }
@@ -110,11 +111,11 @@ fn mark_below(indexed: &Indexed<'_>, above: ExprId, found: &mut Row)
     let closed = indexed.closed();
     let ontology = closed.ontology();
     let facts = closed.facts();
-    let mut from: usize = 0;
-    while let Some(number) = indexed.next_in(Class2::Expr(above), from) {
+    let mut next = indexed.last_of(Predicate::Class(Class2::Expr(above)));
+    while let Some(number) = next {
         let fact = &facts[number as usize];
         mark(found, below(ontology, above, fact));
-        from = number as usize + 1;
+        next = indexed.before(number);
     }
 }
 
@@ -128,8 +129,7 @@ fn marked_below(indexed: &Indexed<'_>, expression: ExprId, marks: &Row) -> Resul
     Ok(found)
 }
 
-/// Of the marked individuals, marks on those that a fact puts in the expression. Others may have marks, too. Facts of other classes are
-/// passed over by their tags.
+/// Of the marked individuals, marks on those that a fact puts in the expression. Others may have marks, too.
 fn marked_members(indexed: &Indexed<'_>, expression: ExprId, marks: &Row) -> Result<Row, Memory>
     ensures { IfOk result (λ found. AreGiven (Answers indexed.now.ontology (asked.Members expression)) indexed.now.saturation.state.facts marks.now found) }
 {
@@ -137,11 +137,11 @@ fn marked_members(indexed: &Indexed<'_>, expression: ExprId, marks: &Row) -> Res
     let ontology = closed.ontology();
     let facts = closed.facts();
     let mut found = Row::new(closed.allocator(), marks.len())?;
-    let mut from: usize = 0;
-    while let Some(number) = indexed.next_in(Class2::Expr(expression), from) {
+    let mut next = indexed.last_of(Predicate::Class(Class2::Expr(expression)));
+    while let Some(number) = next {
         let fact = &facts[number as usize];
         mark(&mut found, member(ontology, expression, fact));
-        from = number as usize + 1;
+        next = indexed.before(number);
     }
     Ok(found)
 }
@@ -211,10 +211,10 @@ fn found_members(indexed: &Indexed<'_>, expression: ExprId, marks: &Row) -> Resu
 
 // ---- by what costs less
 
-/// So many facts are gone over by their tags at the cost of looking for one, about.
+/// Of so many facts of all one is of the class, as a rule, where looking for one number costs what going over it does.
 const FACTS_A_SEARCH: usize = 1024;
 
-/// Whether looking for each marked number costs less than going over all facts by their tags.
+/// Whether looking for each marked number costs less than going over the facts of the class, as a rule.
 fn are_few(closed: &Closed<'_>, marks: &Row) -> bool
     ensures { IsTrue result → length marks.now ≤ 2 ^ 32 }
 {

@@ -1,12 +1,13 @@
 //! All that an ontology leads to, with the tables that find facts.
+ghost use Rattle.facts.specs.declared.contexts.Fact.{Fact as Fact2};
 ghost use Rattle.indexes.specs.FactIndex.{IsFrom, IsIn};
-ghost use Rattle.inference.specs.Tags.{NoneIn};
+ghost use Rattle.inference.specs.Predicates.{IsLast, end_of, predicate_of};
 ghost use Rattle.saturate.specs.ServedFacts.{AreNumbersOf};
-ghost use Rattle.std.specs.Prelude.{◌≡◌, ◌<◌, ◌≤◌, Contains, IfNone, IfSome, IsNone, Some, length, slice_get};
+ghost use Rattle.std.specs.Prelude.{◌≡◌, Contains, IfNone, IfSome, Some, length, slice_get};
 
 use crate::closed::Closed;
 use facts::{Context, Fact, FactId};
-use normal_forms::Class2;
+use inference::Predicate;
 use saturate::State;
 use std::marker::Model;
 use work_list::ByContext;
@@ -47,15 +48,19 @@ impl<'a> Indexed<'a> {
         self.state.find(fact)
     }
 
-    /// Passes over the facts from that number on that put nothing into the class: the number of one that may, if there is any. It looks
-    /// at a byte of each, and at the next where that is the class's, and needs no memory.
-    pub fn next_in(&self, class: Class2, from: usize) -> Option<u32>
-        ensures low { IfSome result (λ number. from ≤ number) }
-        ensures high { IfSome result (λ number. number < length self.now.saturation.state.facts) }
-        ensures before { IfSome result (λ number. NoneIn from number self.now.saturation.state.facts class) }
-        ensures none { IsNone result → NoneIn from (length self.now.saturation.state.facts) self.now.saturation.state.facts class }
+    /// The number of the last fact of the class, or of the property, if there is one. Needs no memory.
+    pub fn last_of(&self, predicate: Predicate) -> Option<u32>
+        ensures { IsLast predicate self.now.saturation.state.facts (length self.now.saturation.state.facts) (end_of result) }
     {
-        self.state.next_in(class, from)
+        self.state.last_of(predicate)
+    }
+
+    /// The number of the last fact of the same class, or of the same property, before the fact of that number, if there is one. Needs no
+    /// memory.
+    pub fn before(&self, number: u32) -> Option<u32>
+        ensures { (f : Fact2) → slice_get self.now.saturation.state.facts number ≡ Some f → IsLast (predicate_of f) self.now.saturation.state.facts number (end_of result) }
+    {
+        self.state.before(number)
     }
 
     /// The numbers of the facts that put a class into the context. Needs no memory.

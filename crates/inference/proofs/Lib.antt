@@ -16,10 +16,8 @@ pub mod Below
 pub mod Meeting
 pub mod Restrictions
 pub mod Marking
-pub mod Passing
 pub mod Sparing
 pub mod Flagging
 pub mod Planning
-pub mod ClassNumbers
-pub mod Tagging
+pub mod Listing
 pub mod BirthLists

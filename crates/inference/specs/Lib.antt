@@ -7,7 +7,6 @@ pub mod Entry
 pub mod Draws
 pub mod Sameness
 pub mod Marks
-pub mod Kinds
 pub mod Plans
 pub mod Joins
 pub mod Partings
@@ -15,6 +14,5 @@ pub mod Differences
 pub mod Flags
 pub mod Led
 pub mod Premises
-pub mod ClassNumbers
-pub mod Tags
+pub mod Predicates
 pub mod BirthLists

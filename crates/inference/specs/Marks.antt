@@ -20,9 +20,9 @@ use Rattle.inference.specs.Derivations.{Derived}
 use Rattle.inference.specs.Completeness.{DrawnUpToRedundancy, IsDrawnFrom}
 use Rattle.inference.specs.Visits.{IsBy, IsClassFact}
 
--- a mark below the two greatest is the number of the property of an edge, and the lower of these that of a fact that puts something into a class
+-- a mark below the greatest is the number of the property of an edge
 abbrev pub IsMark : ℕ → Fact → Type 0
-IsMark mark f = (mark < 65534 → IsBy (Property (record { 0 = mark })) f) × (mark ≡ 65534 → IsClassFact f)
+IsMark mark f = mark < 65535 → IsBy (Property (record { 0 = mark })) f
 
 -- each mark is that of the fact at its place
 abbrev pub AreMarks : List Fact → List ℕ → Type 0

@@ -1,11 +1,9 @@
 //! The facts so far, and what gave them.
 ghost use Rattle.facts.specs.Births.{reason};
 ghost use Rattle.inference.specs.Derivations.{with_fact};
-ghost use Rattle.inference.specs.ClassNumbers.{IsAboveClass, IsAboveClasses, IsPast};
 ghost use Rattle.inference.specs.Flags.{HasEntryFacts};
-ghost use Rattle.inference.specs.Kinds.{ArePassed};
 ghost use Rattle.inference.specs.Marks.{AreMarks, IsMark};
-ghost use Rattle.inference.specs.Tags.{NoneIn};
+ghost use Rattle.inference.specs.Predicates.{AreListed, IsLast, end_of, predicate_of};
 ghost use Rattle.inference.specs.Visits.{IsBy};
 ghost use Rattle.facts.specs.declared.contexts.Fact.{Fact as Fact2};
 ghost use Rattle.normal_forms.specs.declared.forms.PropId2.TheVariants as properties;
@@ -13,12 +11,12 @@ ghost use Rattle.inference.specs.declared.known_facts.Stop.TheVariants as stops;
 ghost use Rattle.std.specs.Prelude.{◌≡◌, ◌<◌, ◌≤◌, ◌^◌, ◌∷◌, Some, [], length, take, slice_get, Contains, Ok, IfOk, IfSome, IsNone, OnErr, false, true};
 
 use crate::birth_list::BirthList;
-use crate::class_tags::{ClassTags, copied};
 use crate::context_flags::ContextFlags;
-use crate::passed_kinds::PassedKinds;
+use crate::predicate_lists::{PredicateLists, copied};
+use crate::predicates::Predicate;
 use axioms::{Memory, PropId};
 use facts::{Birth, Context, Fact, FactTable, StoredFact};
-use normal_forms::{Class2, PropId2};
+use normal_forms::PropId2;
 use std::alloc::Global;
 use std::hash::RandomState;
 use std::marker::Model;
@@ -48,76 +46,39 @@ impl From<Memory> for Stop {
 pub struct KnownFacts {
     facts: FactTable,
     births: BirthList,
-    /// The tags of each fact, by which the facts of a class are found without a look at each.
-    tags: ClassTags,
+    /// Lists of the facts of each class, and of each property.
+    lists: PredicateLists,
     /// A mark of each of the first facts, by which an edge and its property are told without a look at the fact.
     marks: Vec<u16>,
     /// Contexts that are known to have what is in each context.
     entered: ContextFlags,
-    /// A number above that of each expression into which a fact puts something.
-    end: usize,
 }
 
 impl Model for KnownFacts {
-    ghost use Rattle.inference.specs.ClassNumbers.{IsAboveClasses};
     ghost use Rattle.inference.specs.Derivations.{Derived};
     ghost use Rattle.inference.specs.Flags.{AreFlags};
     ghost use Rattle.inference.specs.Marks.{AreMarks};
-    ghost use Rattle.inference.specs.Tags.{AreTags};
+    ghost use Rattle.inference.specs.Predicates.{AreListed};
 
     ghost Value = { Derived };
 
     ghost view = { λ s. record { facts = s.facts; births = s.births.reasons } };
 
-    ghost invariant = { λ s. AreMarks s.facts s.marks.items × AreFlags (record { facts = s.facts; births = s.births.reasons }) s.entered × IsAboveClasses s.end s.facts × AreTags s.facts s.tags.low s.tags.high };
-}
-
-/// A number above that of the class, where it is an expression.
-fn end_of_class(class: Class2) -> usize
-    ensures { IsAboveClass result class }
-{
-    match class {
-        Class2::Expr(class) => class.index() + 1,
-        Class2::Partial(_) => 0,
-    }
-}
-
-/// A number above that of the expression into which the fact puts something, where it puts something into one.
-fn end_of(fact: Fact) -> usize
-    ensures { IsAboveClasses result (fact ∷ []) }
-{
-    match fact {
-        Fact::In(class, _) => end_of_class(class),
-        Fact::Edge(..) => 0,
-    }
-}
-
-/// Whether the class is an expression whose number is not below that.
-fn is_past(class: Class2, end: usize) -> bool
-    ensures { result ≡ true → IsPast end class }
-{
-    match class {
-        Class2::Expr(class) => end <= class.index(),
-        Class2::Partial(_) => false,
-    }
+    ghost invariant = { λ s. AreMarks s.facts s.marks.items × AreFlags (record { facts = s.facts; births = s.births.reasons }) s.entered × AreListed s.facts s.lists };
 }
 
 /// The mark of a fact of which it tells nothing.
 const UNMARKED: u16 = u16::MAX;
 
-/// The mark of a fact that puts something into a class.
-pub(crate) const IN_CLASS: u16 = UNMARKED - 1;
-
-/// The mark of a fact: the number of its property, where it is an edge and that is below the two greatest marks.
+/// The mark of a fact: the number of its property, where it is an edge and that is below the greatest mark.
 fn mark_of(fact: Fact) -> u16
     ensures { IsMark result fact }
 {
     match fact {
-        Fact::In(..) => IN_CLASS,
-        Fact::Edge(_, PropId2::Property(PropId(number)), _) if number < IN_CLASS as u32 => {
+        Fact::Edge(_, PropId2::Property(PropId(number)), _) if number < UNMARKED as u32 => {
             number as u16
         }
-        Fact::Edge(..) => UNMARKED,
+        Fact::In(..) | Fact::Edge(..) => UNMARKED,
     }
 }
 
@@ -133,6 +94,18 @@ fn mark_all(facts: &[StoredFact], marks: &mut Vec<u16>)
     }
 }
 
+/// Takes the facts from that number on out of the lists.
+fn unlist(lists: &mut PredicateLists, facts: &[StoredFact], len: usize)
+    requires { AreListed facts.now lists.old }
+    ensures { AreListed (take len facts.now) lists.new }
+{
+    let mut end = facts.len();
+    while len < end {
+        end -= 1;
+        lists.pop(facts[end].get());
+    }
+}
+
 impl KnownFacts {
     /// No facts.
     pub fn new(alloc: Global, state: RandomState) -> Self
@@ -142,10 +115,9 @@ impl KnownFacts {
         KnownFacts {
             facts: FactTable::new(alloc, state),
             births: BirthList::new(alloc),
-            tags: ClassTags::new(alloc),
+            lists: PredicateLists::new(alloc),
             marks: Vec::new(alloc),
             entered: ContextFlags::new(alloc),
-            end: 0,
         }
     }
 
@@ -158,17 +130,16 @@ impl KnownFacts {
         ensures { IfOk result (λ f. f ≡ self.now) }
     {
         let births = self.births.copy()?;
-        let tags = self.tags.copy()?;
+        let lists = self.lists.copy()?;
         let facts = self.facts.copy()?;
         let marks = copied(&self.marks)?;
         let alloc = self.allocator();
         Ok(KnownFacts {
             facts,
             births,
-            tags,
+            lists,
             marks,
             entered: ContextFlags::new(alloc),
-            end: self.end,
         })
     }
 
@@ -193,34 +164,18 @@ impl KnownFacts {
         self.facts.len()
     }
 
-    /// Passes over the facts from that number on that put nothing into the class: the number of one that may, if there is any. It looks
-    /// at the tags of the facts alone.
-    pub fn next_in(&self, class: Class2, from: usize) -> Option<u32>
-        ensures low { IfSome result (λ number. from ≤ number) }
-        ensures high { IfSome result (λ number. number < length self.now.facts) }
-        ensures before { IfSome result (λ number. NoneIn from number self.now.facts class) }
-        ensures none { IsNone result → NoneIn from (length self.now.facts) self.now.facts class }
+    /// The number of the last fact of the class, or of the property, if there is one.
+    pub fn last_of(&self, predicate: Predicate) -> Option<u32>
+        ensures { IsLast predicate self.now.facts (length self.now.facts) (end_of result) }
     {
-        if from >= self.facts.len() || is_past(class, self.end) {
-            return None;
-        }
-        let number = self.tags.next(class, from)?;
-        Some(number as u32)
+        self.lists.last(predicate)
     }
 
-    /// Passes over the facts from that number on that marks tell to be of such kinds: the number of one that may be of another, if there
-    /// is any. It looks at the marks of the facts alone.
-    pub fn next_besides(&self, kinds: &PassedKinds, from: usize) -> Option<u32>
-        ensures low { IfSome result (λ number. from ≤ number) }
-        ensures high { IfSome result (λ number. number < length self.now.facts) }
-        ensures before { IfSome result (λ number. ArePassed kinds.now self.now.facts from number) }
-        ensures none { IsNone result → ArePassed kinds.now self.now.facts from (length self.now.facts) }
+    /// The number of the last fact of the same class, or of the same property, before the fact of that number, if there is one.
+    pub fn before(&self, number: u32) -> Option<u32>
+        ensures { (f : Fact2) → slice_get self.now.facts number ≡ Some f → IsLast (predicate_of f) self.now.facts number (end_of result) }
     {
-        let place = kinds.next(&self.marks, from);
-        if place >= self.facts.len() {
-            return None;
-        }
-        Some(place as u32)
+        self.lists.before(number)
     }
 
     /// The fact of that number.
@@ -261,10 +216,9 @@ impl KnownFacts {
         let KnownFacts {
             facts,
             mut births,
-            tags: _,
+            lists: _,
             marks: _,
             entered: _,
-            end: _,
         } = self;
         births.unshare();
         (facts.into_list(), births)
@@ -305,12 +259,14 @@ impl KnownFacts {
         ensures err { OnErr result (self.new ≡ self.old) }
     {
         self.births.reserve(1)?;
-        self.tags.reserve(1)?;
+        let before = self.facts.len();
         let is_new = self.facts.insert(fact)?;
         if is_new {
+            let Ok(()) = self.lists.push(fact) else {
+                self.facts.truncate(before);
+                return Err(Memory);
+            };
             self.births.push(birth);
-            self.tags.push(fact);
-            self.end = self.end.max(end_of(fact));
         }
         Ok(is_new)
     }
@@ -330,7 +286,7 @@ impl KnownFacts {
         ensures { IfSome result (λ p. (f : Fact2) × (slice_get self.now.facts number ≡ Some f) × IsBy (properties.Property p) f) }
     {
         match self.marks.get(number as usize) {
-            Some(mark) if *mark < IN_CLASS => Some(PropId(*mark as u32)),
+            Some(mark) if *mark < UNMARKED => Some(PropId(*mark as u32)),
             _ => None,
         }
     }
@@ -358,7 +314,7 @@ impl KnownFacts {
         ensures { self.new ≡ self.old }
     {
         if self.births.reserve(facts).is_ok()
-            && self.tags.reserve(facts).is_ok()
+            && self.lists.reserve(facts).is_ok()
             && self.facts.reserve(facts, contexts).is_ok()
         {
             return;
@@ -370,9 +326,9 @@ impl KnownFacts {
         ensures facts { self.new.facts ≡ take len self.old.facts }
         ensures births { self.new.births ≡ take len self.old.births }
     {
+        unlist(&mut self.lists, self.facts.as_slice(), len);
         self.facts.truncate(len);
         self.births.truncate(len);
-        self.tags.truncate(len);
         self.marks.truncate(len);
         self.entered.clear();
     }

@@ -3,7 +3,6 @@
 
 mod apart;
 mod birth_list;
-mod class_tags;
 mod conclusions;
 mod context_flags;
 mod differences;
@@ -14,8 +13,9 @@ mod joins;
 mod known_facts;
 mod led;
 mod pairing;
-mod passed_kinds;
 mod plans;
+mod predicate_lists;
+mod predicates;
 mod premises;
 mod properties;
 mod rules;
@@ -27,7 +27,7 @@ mod visits;
 pub use birth_list::BirthList;
 pub use joins::Joins;
 pub use known_facts::{KnownFacts, Stop};
-pub use passed_kinds::PassedKinds;
+pub use predicates::Predicate;
 pub use premises::Premise;
 pub use rules::Rules;
 pub use second_premises::is_second_premise;

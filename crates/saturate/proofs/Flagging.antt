@@ -1,66 +1,28 @@
 -- Flags of the facts that added forms ask for.
-use Rattle.std.proofs.Common.{◌≡◌, ◌≢◌, ◌↔◌, ℕ, ◌+◌, ◌<◌, ◌≤◌, ◌⊎◌, inl, inr, ⊎_elim, Bool, true, false, not, List, [], ◌∷◌, ◌++◌, length, replicate, take, get_or, get_or-set_other, get_or-set_same, cond, eqb, slice_get, slice_set, Option, Some, None, Contains, refl, sym, ap, ◌∙◌, subst, arith, below_more}
+use Rattle.std.proofs.Common.{◌≡◌, ◌≢◌, ◌↔◌, ℕ, ◌+◌, ◌<◌, ◌≤◌, ◌⊎◌, inl, inr, ⊎_elim, Bool, true, false, not, List, [], ◌∷◌, ◌++◌, length, replicate, take, get_or, get_or-set_other, get_or-set_same, cond, eqb, slice_get, slice_set, Option, Some, None, Contains, refl, sym, ap, ◌∙◌, subst, arith}
 use Rattle.std.proofs.lemmas.Bool.{cases_lt, false≢true}
 use Rattle.std.proofs.lemmas.Bool.Decides.{eqb_tells}
 use Rattle.std.proofs.lemmas.List.{append-nil, get_or-replicate, get_or_past, length-replicate, take_all}
 use Rattle.std.proofs.lemmas.List.Elements.{Contains-append_left, Contains-push, Contains-push_cases, filter_more}
-use Rattle.std.proofs.lemmas.Option.{none-some, same_Some, slice_get_within}
+use Rattle.std.proofs.lemmas.Option.{none-some, same_Some}
 use Rattle.axioms.specs.declared.ids.ExprId.{ExprId}
-use Rattle.facts.specs.declared.contexts.Context.{Context}
 use Rattle.facts.specs.declared.contexts.Fact.{Fact}
 use Rattle.facts.specs.declared.contexts.Fact.TheVariants.{In, Edge}
 use Rattle.normal_forms.specs.declared.forms.Class2.{Class2}
 use Rattle.normal_forms.specs.declared.forms.Form.{Form}
 use Rattle.facts.specs.Closure.{Problem}
 use Rattle.normal_forms.proofs.Filters.{kept as is_kept_of, from_kept, passes}
-use Rattle.inference.specs.Visits.{IsOfClass}
+use Rattle.inference.specs.declared.predicates.Predicate.TheVariants as predicates
+use Rattle.inference.specs.declared.predicates.Predicate.{Predicate}
+use Rattle.inference.specs.Predicates.{IsLast, SaysAt, end_of, predicate_of}
+use Rattle.inference.proofs.Listing.{on_from}
 use Rattle.saturate.specs.Requests.{IsAsked, IsAskedAnew, IsAskedByForm, IsNew, IsOfNamed, IsOfNamedClass, IsSuchAt, NamesClass, NewFormAsks}
-use Rattle.saturate.specs.Flags.{AreFlaggedToo, AreThoseFlagged, HasOneFlagMore, IsFlagged, is_flagged, is_kept, kept}
+use Rattle.saturate.specs.Flags.{AreFlaggedToo, AreThoseFlagged, HasOneFlagMore, IsFlagged, IsSuchForOne, is_flagged, is_kept, kept}
 use Rattle.saturate.specs.Growth.{KeepsServed}
-use Rattle.inference.proofs.Lists.{one_value}
 use Rattle.lemmas.proofs.Members.{Contains-none}
 use Rattle.lemmas.proofs.Places.{take_push}
-use Rattle.inference.specs.Tags.{NoneIn}
-
--- one flag more: its fact is such
-pub flag_more : (P : Fact → Type 0) (facts : List Fact) (flags new : List Bool) (i : ℕ) (f : Fact) → slice_get facts i ≡ Some f → P f → HasOneFlagMore i flags new
-    → ((n : ℕ) → n < i → IsFlagged P facts flags n)
-    → (n : ℕ) → n < i + 1 → IsFlagged P facts new n
-flag_more P facts flags new i f at is more before = below_more (IsFlagged P facts new) i
-    (λ n low.
-    let ne : n ≢ i = omega (arith, low) in
-    let same = more.others n ne in
-    let b = before n low in
-    record { yes = λ e. b.yes (sym same ∙ e); no = λ e. b.no (sym same ∙ e) })
-    (record { yes = λ _. (f, at, is); no = λ e _. false≢true (sym e ∙ more.here) })
-
--- none past it
-pub none_past : (flags new : List Bool) (i : ℕ) → HasOneFlagMore i flags new → ((n : ℕ) → i ≤ n → is_flagged flags n ≡ false) → (n : ℕ) → i + 1 ≤ n → is_flagged new n ≡ false
-none_past flags new i more past n high =
-    let ne : n ≢ i = omega (arith, high) in
-    more.others n ne ∙ past n (omega (arith, high))
-
--- no flag more: the facts up to another are not such
-pub flags_passed : (P : Fact → Type 0) (facts : List Fact) (flags : List Bool) (from to : ℕ) → ((n : ℕ) (f : Fact) → from ≤ n → n < to → slice_get facts n ≡ Some f → ¬ P f)
-    → ((n : ℕ) → from ≤ n → is_flagged flags n ≡ false)
-    → ((n : ℕ) → n < from → IsFlagged P facts flags n)
-    → (n : ℕ) → n < to → IsFlagged P facts flags n
-flags_passed P facts flags from to not past before n low = ⊎_elim
-    (λ below. before n below)
-    (λ high. record { yes = λ e. absurd (false≢true (sym (past n high) ∙ e)); no = λ _ h. not n h.0 high low h.1 h.2 })
-    (cases_lt n from)
-
-pub flag_none : (P : Fact → Type 0) (facts : List Fact) (flags : List Bool) (i : ℕ) (f : Fact) → slice_get facts i ≡ Some f → ¬ P f → is_flagged flags i ≡ false
-    → ((n : ℕ) → n < i → IsFlagged P facts flags n)
-    → (n : ℕ) → n < i + 1 → IsFlagged P facts flags n
-flag_none P facts flags i f at not off before = below_more (IsFlagged P facts flags) i before
-    (record { yes = λ e. absurd (false≢true (sym off ∙ e)); no = λ _ h. not (subst P (one_value _ h.0 f h.1 at) h.2) })
 
 -- ---- those that are flagged, and those that are such
-
--- a number at which there is such a fact, below another
-abbrev pub IsSuchBelow : (Fact → Type 0) → List Fact → ℕ → ℕ → Type 0
-IsSuchBelow P facts bound n = (n < bound) × IsSuchAt P facts n
 
 -- what is such in one way is so in another
 pub flagged_as : (P Q : ℕ → Type 0) {old new : List Bool} → ((n : ℕ) → P n ↔ Q n) → AreFlaggedToo P old new → AreFlaggedToo Q old new
@@ -75,37 +37,78 @@ flagged_as P Q same too = record {
 pub none_too : (P : ℕ → Type 0) (flags : List Bool) → ((n : ℕ) → ¬ P n) → AreFlaggedToo P flags flags
 none_too P flags none = record { each = λ n. ((λ e. inl e), (λ h. ⊎_elim (λ was. was) (λ is. absurd (none n is)) h)) }
 
--- numbers are passed over at which no fact is such
-pub passed : (P : Fact → Type 0) (facts : List Fact) (from to : ℕ) {old new : List Bool} → from ≤ to → ((n : ℕ) → from ≤ n → n < to → ¬ IsSuchAt P facts n)
-    → AreFlaggedToo (IsSuchBelow P facts from) old new → AreFlaggedToo (IsSuchBelow P facts to) old new
-passed P facts from to low none = flagged_as (IsSuchBelow P facts from) (IsSuchBelow P facts to)
-    (λ n. (
-      (λ w. (omega (arith, w.0, low), w.1)),
-      (λ w. (⊎_elim (λ (below : n < from). below) (λ (above : from ≤ n). absurd (none n above w.0 w.1)) (cases_lt n from), w.1)),
-    ))
-
--- to the end
-pub passed_all : (P : Fact → Type 0) (facts : List Fact) (from : ℕ) {old new : List Bool} → ((n : ℕ) → from ≤ n → n < length facts → ¬ IsSuchAt P facts n)
-    → AreFlaggedToo (IsSuchBelow P facts from) old new → AreFlaggedToo (IsSuchAt P facts) old new
-passed_all P facts from none = flagged_as (IsSuchBelow P facts from) (IsSuchAt P facts)
-    (λ n. (
-      (λ w. w.1),
-      (λ w. (⊎_elim (λ (below : n < from). below) (λ (above : from ≤ n). absurd (none n above (slice_get_within facts n w.0 w.1) w)) (cases_lt n from), w)),
-    ))
-
--- one more is such, and flagged
-pub flagged_one : (P : Fact → Type 0) (facts : List Fact) (i : ℕ) {old mid new : List Bool} → IsSuchAt P facts i → HasOneFlagMore i mid new
-    → AreFlaggedToo (IsSuchBelow P facts i) old mid → AreFlaggedToo (IsSuchBelow P facts (i + 1)) old new
-flagged_one P facts i {old} {mid} {new} such more too = record { each = λ n. ⊎_elim (λ w. same n w.1) (λ w. other n w.1) (eqb_tells n i) }
+-- that number
+pub flagged_one : (i : ℕ) {old new : List Bool} → HasOneFlagMore i old new → AreFlaggedToo (λ n. n ≡ i) old new
+flagged_one i {old} {new} more = record { each = λ n. ⊎_elim (λ w. same n w.1) (λ w. other n w.1) (eqb_tells n i) }
   where
-    same : (n : ℕ) → n ≡ i → (is_flagged new n ≡ true) ↔ ((is_flagged old n ≡ true) ⊎ IsSuchBelow P facts (i + 1) n)
-    same n e = ((λ _. inr (omega (arith, e), subst (IsSuchAt P facts) (sym e) such)), (λ _. ap (is_flagged new) e ∙ more.here))
+    same : (n : ℕ) → n ≡ i → (is_flagged new n ≡ true) ↔ ((is_flagged old n ≡ true) ⊎ (n ≡ i))
+    same n e = ((λ _. inr e), (λ _. ap (is_flagged new) e ∙ more.here))
 
-    other : (n : ℕ) → n ≢ i → (is_flagged new n ≡ true) ↔ ((is_flagged old n ≡ true) ⊎ IsSuchBelow P facts (i + 1) n)
+    other : (n : ℕ) → n ≢ i → (is_flagged new n ≡ true) ↔ ((is_flagged old n ≡ true) ⊎ (n ≡ i))
     other n apart = (
-      λ e. ⊎_elim (λ was. inl was) (λ w. inr (omega (arith, w.0), w.1)) ((too.each n).0 (sym (more.others n apart) ∙ e)),
-      λ h. more.others n apart ∙ (too.each n).1 (⊎_elim (λ was. inl was) (λ w. inr (omega (arith, w.0, apart), w.1)) h),
+      λ e. inl (sym (more.others n apart) ∙ e),
+      λ h. more.others n apart ∙ ⊎_elim (λ was. was) (λ e. absurd (apart e)) h,
     )
+
+-- some, and then others
+pub flagged_both : (P Q : ℕ → Type 0) {old mid new : List Bool} → AreFlaggedToo P old mid → AreFlaggedToo Q mid new → AreFlaggedToo (λ n. P n ⊎ Q n) old new
+flagged_both P Q first second = record {
+  each = λ n. (
+    (λ e. ⊎_elim
+        (λ mid_has. ⊎_elim (λ was. inl was) (λ p. inr (inl p)) ((first.each n).0 mid_has))
+        (λ q. inr (inr q))
+        ((second.each n).0 e)),
+    (λ h. (second.each n).1 (⊎_elim
+        (λ was. inl ((first.each n).1 (inl was)))
+        (λ w. ⊎_elim (λ p. inl ((first.each n).1 (inr p))) (λ q. inr q) w)
+        h)),
+  );
+}
+
+-- ---- a walk from the last of the facts that say so to the first
+
+-- from the one before on: that number, and then those behind it
+pub walked_on : (q : Predicate) (facts : List Fact) (next : Option ℕ) (number end : ℕ) → next ≡ Some number → SaysAt q facts number → IsLast q facts number end
+    → (n : ℕ) → (((end_of next ≤ n) × SaysAt q facts n) ⊎ (n ≡ number)) ↔ ((end ≤ n) × SaysAt q facts n)
+walked_on q facts next number end is says last n =
+    let same : end_of next ≡ number + 1 = omega (arith, ap end_of is) in
+    let on = on_from q facts number end says last n in (
+      λ h. on.0 (⊎_elim (λ w. inl (omega (arith, same, w.0), w.1)) (λ e. inr e) h),
+      λ w. ⊎_elim (λ v. inl (omega (arith, same, v.0), v.1)) (λ e. inr e) (on.1 w),
+    )
+
+-- at the first all of them
+pub all_walked : (q : Predicate) (facts : List Fact) (next : Option ℕ) → next ≡ None → (n : ℕ) → ((end_of next ≤ n) × SaysAt q facts n) ↔ SaysAt q facts n
+all_walked q facts next is n = (
+  λ w. w.1,
+  λ says. (omega (arith, ap end_of is), says),
+)
+
+-- ---- those that are such for one of a list
+
+module _ {X : Type 0} (Q : X → ℕ → Type 0) (xs : List X) where
+  pub for_none : (flags : List Bool) → AreFlaggedToo (IsSuchForOne Q (take 0 xs)) flags flags
+  for_none flags = none_too (IsSuchForOne Q (take 0 xs)) flags (λ n w. Contains-none w.0 w.1)
+
+  pub for_one_more : (i : ℕ) (x : X) {old mid new : List Bool} → slice_get xs i ≡ Some x → AreFlaggedToo (IsSuchForOne Q (take i xs)) old mid → AreFlaggedToo (Q x) mid new → AreFlaggedToo (IsSuchForOne Q (take (i + 1) xs)) old new
+  for_one_more i x {old} {mid} {new} at first second = subst (λ (ys : List X). AreFlaggedToo (IsSuchForOne Q ys) old new) (sym (take_push xs i x at))
+      (flagged_as (λ n. IsSuchForOne Q (take i xs) n ⊎ Q x n) (IsSuchForOne Q (take i xs ++ x ∷ [])) (λ n. (join n, split n)) (flagged_both (IsSuchForOne Q (take i xs)) (Q x) first second))
+    where
+      split : (n : ℕ) → IsSuchForOne Q (take i xs ++ x ∷ []) n → IsSuchForOne Q (take i xs) n ⊎ Q x n
+      split n w = ⊎_elim (λ there. inl (w.0, there, w.2)) (λ e. inr (subst (λ (y : X). Q y n) (sym e) w.2)) (Contains-push_cases (take i xs) x w.0 w.1)
+
+      join : (n : ℕ) → IsSuchForOne Q (take i xs) n ⊎ Q x n → IsSuchForOne Q (take i xs ++ x ∷ []) n
+      join n h = ⊎_elim (λ w. (w.0, Contains-append_left (take i xs) (x ∷ []) w.0 w.1, w.2)) (λ is. (x, Contains-push (take i xs) x, is)) h
+
+  pub for_all : (i : ℕ) {old new : List Bool} → length xs ≤ i → AreFlaggedToo (IsSuchForOne Q (take i xs)) old new → AreFlaggedToo (IsSuchForOne Q xs) old new
+  for_all i {old} {new} long too = subst (λ (ys : List X). AreFlaggedToo (IsSuchForOne Q ys) old new) (take_all i xs long) too
+
+-- the numbers of a list
+pub one_of : (numbers : List ℕ) (n : ℕ) → IsSuchForOne (λ (i k : ℕ). k ≡ i) numbers n ↔ Contains numbers n
+one_of numbers n = (
+  λ w. subst (Contains numbers) (sym w.2) w.1,
+  λ there. (n, there, refl),
+)
 
 -- flags that tell which facts are such
 pub flagged_by : (P : Fact → Type 0) (facts : List Fact) (flags : List Bool) (n : ℕ) → (is_flagged flags n ≡ true) ↔ IsSuchAt P facts n → IsFlagged P facts flags n
@@ -114,24 +117,10 @@ flagged_by P facts flags n tells = record {
   no = λ off such. false≢true (sym off ∙ tells.1 such);
 }
 
--- where one is not such, none from it up to the next is
-pub not_one : (P : Fact → Type 0) (facts : List Fact) (i : ℕ) (f : Fact) → slice_get facts i ≡ Some f → ¬ P f → (n : ℕ) → i ≤ n → n < i + 1 → ¬ IsSuchAt P facts n
-not_one P facts i f at not n low high such =
-    let here : n ≡ i = omega arith in
-    not (subst P (one_value _ such.0 f (subst (λ (k : ℕ). slice_get facts k ≡ Some such.0) here such.1) at) such.2)
-
--- what stands where nothing is put into the class is not of that class
-not_of_class : (a : Class2) (facts : List Fact) (n : ℕ) (f : Fact) → ((x : Context) → slice_get facts n ≢ Some (In a x)) → slice_get facts n ≡ Some f → ¬ IsOfClass a f
-not_of_class a facts n (In b x) none at is = none x (at ∙ ap (λ (d : Class2). Some (In d x)) is)
-not_of_class a facts n (Edge x p y) none at is = is
-
-pub none_of_class : (a : Class2) (facts : List Fact) (from to : ℕ) → NoneIn from to facts a → (n : ℕ) → from ≤ n → n < to → ¬ IsSuchAt (IsOfClass a) facts n
-none_of_class a facts from to none n low high such = not_of_class a facts n such.0 (λ x. none x n low high) such.1 such.2
-
 -- a fact is of the class that a form names exactly where it is of one that it names
-of_named : (form : Form) (a : Class2) → NamesClass form a → ((b : Class2) → NamesClass form b → b ≡ a) → (f : Fact) → IsOfClass a f ↔ IsOfNamed form f
-of_named form a names one (In b x) = ((λ is. subst (NamesClass form) (sym is) names), (λ is. one b is))
-of_named form a names one (Edge x p y) = ((λ is. is), (λ is. is))
+of_named : (form : Form) (a : Class2) → NamesClass form a → ((b : Class2) → NamesClass form b → b ≡ a) → (f : Fact) → (predicate_of f ≡ predicates.Class a) ↔ IsOfNamed form f
+of_named form a names one (In b x) = ((λ is. let same : b ≡ a = cc in subst (NamesClass form) (sym same) names), (λ is. ap predicates.Class (one b is)))
+of_named form a names one (Edge x p y) = ((λ is. absurd (cc)), (λ is. absurd is))
 
 -- what is such in one way is so in another, at each number
 pub such_as : (P Q : Fact → Type 0) (facts : List Fact) → ((f : Fact) → P f ↔ Q f) → (n : ℕ) → IsSuchAt P facts n ↔ IsSuchAt Q facts n
@@ -139,9 +128,9 @@ such_as P Q facts same n = ((λ w. (w.0, w.1, (same w.0).0 w.2)), (λ w. (w.0, w
 
 -- those of the class are flagged: they are those of the class that the form names
 pub named_too : (form : Form) (a : Class2) (named : Option Class2) (facts : List Fact) {old new : List Bool} → ((b : Class2) → NamesClass form b ↔ (named ≡ Some b)) → named ≡ Some a
-    → AreFlaggedToo (IsSuchAt (IsOfClass a) facts) old new → AreFlaggedToo (IsSuchAt (IsOfNamed form) facts) old new
-named_too form a named facts names is = flagged_as (IsSuchAt (IsOfClass a) facts) (IsSuchAt (IsOfNamed form) facts)
-    (such_as (IsOfClass a) (IsOfNamed form) facts (of_named form a ((names a).1 is) (λ b named_b. same_Some b a (sym ((names b).0 named_b) ∙ is))))
+    → AreFlaggedToo (SaysAt (predicates.Class a) facts) old new → AreFlaggedToo (IsSuchAt (IsOfNamed form) facts) old new
+named_too form a named facts names is = flagged_as (SaysAt (predicates.Class a) facts) (IsSuchAt (IsOfNamed form) facts)
+    (such_as (λ f. predicate_of f ≡ predicates.Class a) (IsOfNamed form) facts (of_named form a ((names a).1 is) (λ b named_b. same_Some b a (sym ((names b).0 named_b) ∙ is))))
 
 -- where a form names none, no fact is of one
 not_named : (form : Form) (f : Fact) → ((b : Class2) → ¬ NamesClass form b) → ¬ IsOfNamed form f
@@ -151,26 +140,19 @@ not_named form (Edge x p y) none is = is
 pub none_named : (form : Form) (named : Option Class2) (facts : List Fact) (flags : List Bool) → ((b : Class2) → NamesClass form b ↔ (named ≡ Some b)) → named ≡ None → AreFlaggedToo (IsSuchAt (IsOfNamed form) facts) flags flags
 none_named form named facts flags names is = none_too (IsSuchAt (IsOfNamed form) facts) flags (λ n such. not_named form such.0 (λ b named_b. none-some b (sym is ∙ (names b).0 named_b)) such.2)
 
--- ---- flags of the facts of classes that the first so many forms name
-
-pub named_by_none : (forms : List Form) (facts : List Fact) (flags : List Bool) (n : ℕ) → is_flagged flags n ≡ false → (is_flagged flags n ≡ true) ↔ IsSuchAt (IsOfNamedClass (take 0 forms)) facts n
-named_by_none forms facts flags n off = ((λ e. absurd (false≢true (sym off ∙ e))), (λ such. absurd (Contains-none such.2.0 such.2.1)))
-
-pub named_by_more : (forms : List Form) (i : ℕ) (form : Form) (facts : List Fact) {old new : List Bool} → slice_get forms i ≡ Some form → AreFlaggedToo (IsSuchAt (IsOfNamed form) facts) old new
-    → (n : ℕ) → (is_flagged old n ≡ true) ↔ IsSuchAt (IsOfNamedClass (take i forms)) facts n → (is_flagged new n ≡ true) ↔ IsSuchAt (IsOfNamedClass (take (i + 1) forms)) facts n
-named_by_more forms i form facts {new = new} at too n before = subst (λ (list : List Form). (is_flagged new n ≡ true) ↔ IsSuchAt (IsOfNamedClass list) facts n) (sym (take_push forms i form at)) (
-  (λ e. ⊎_elim (λ was. older (before.0 was)) (λ such. (such.0, such.1, (form, Contains-push (take i forms) form, such.2))) ((too.each n).0 e)),
-  (λ such. (too.each n).1 (⊎_elim
-      (λ there. inl (before.1 (such.0, such.1, (such.2.0, there, such.2.2))))
-      (λ is. inr (such.0, such.1, subst (λ (g : Form). IsOfNamed g such.0) (sym is) such.2.2))
-      (Contains-push_cases (take i forms) form such.2.0 such.2.1))),
+-- flags of no other facts tell which are such
+pub flagged_alone : (P : Fact → Type 0) (Q : ℕ → Type 0) (facts : List Fact) (old new : List Bool) (n : ℕ) → is_flagged old n ≡ false → (Q n ↔ IsSuchAt P facts n) → AreFlaggedToo Q old new → IsFlagged P facts new n
+flagged_alone P Q facts old new n off same too = flagged_by P facts new n (
+  λ e. ⊎_elim (λ was. absurd (false≢true (sym off ∙ was))) (λ is. same.0 is) ((too.each n).0 e),
+  λ such. (too.each n).1 (inr (same.1 such)),
 )
-  where
-    older : IsSuchAt (IsOfNamedClass (take i forms)) facts n → IsSuchAt (IsOfNamedClass (take i forms ++ form ∷ [])) facts n
-    older such = (such.0, such.1, (such.2.0, Contains-append_left (take i forms) (form ∷ []) such.2.0 such.2.1, such.2.2))
 
-pub named_by_all : (forms : List Form) (i : ℕ) (facts : List Fact) (flags : List Bool) (n : ℕ) → length forms ≤ i → (is_flagged flags n ≡ true) ↔ IsSuchAt (IsOfNamedClass (take i forms)) facts n → IsFlagged (IsOfNamedClass forms) facts flags n
-named_by_all forms i facts flags n long tells = flagged_by (IsOfNamedClass forms) facts flags n (subst (λ (list : List Form). (is_flagged flags n ≡ true) ↔ IsSuchAt (IsOfNamedClass list) facts n) (take_all i forms long) tells)
+-- facts of classes that one of the forms names
+pub one_named : (forms : List Form) (facts : List Fact) (n : ℕ) → IsSuchForOne (λ form. IsSuchAt (IsOfNamed form) facts) forms n ↔ IsSuchAt (IsOfNamedClass forms) facts n
+one_named forms facts n = (
+  λ w. (w.2.0, w.2.1, (w.0, w.1, w.2.2)),
+  λ such. (such.2.0, such.2.1, (such.0, such.1, such.2.2)),
+)
 
 -- a number that is flagged has a flag
 pub flagged_within : (flags : List Bool) (n : ℕ) → is_flagged flags n ≡ true → n < length flags

@@ -3,6 +3,7 @@ pub mod Turns
 pub mod Parting
 pub mod States
 pub mod Listing
+pub mod Listed
 pub mod Exact
 pub mod Counting
 pub mod Asking
@@ -19,7 +20,6 @@ pub mod NewSeconds
 pub mod Staying
 pub mod Removing
 pub mod Summaries
-pub mod Telling
 pub mod FormKeys
 pub mod Settling
 pub mod Shifting

@@ -1,15 +1,5 @@
--- What is named is still there where there is more; and rows of what is named.
-use Rattle.std.proofs.Common.{◌≡◌, ◌↔◌, ℕ, ◌+◌, ◌<◌, ◌≤◌, ◌⊎◌, inl, inr, ⊎_elim, Bool, false, List, [], ◌∷◌, ◌++◌, length, take, slice_get, get_or, Some, Contains, refl, subst, sym, ◌∙◌, arith, below_more}
-use Rattle.std.proofs.lemmas.Bool.{false≢true}
-use Rattle.std.proofs.lemmas.List.{take_all}
-use Rattle.std.proofs.lemmas.List.Elements.{Contains-append_left, Contains-push, Contains-push_cases}
-use Rattle.lemmas.proofs.Members.{Contains-none}
-use Rattle.lemmas.proofs.Places.{take_push}
-use Rattle.facts.specs.Closure.{Problem}
-use Rattle.normal_forms.specs.declared.forms.Class2.{Class2}
-use Rattle.saturate.specs.Naming.{ArePut, IsOfLists, IsOfOne, expression}
-use Rattle.saturate.specs.Requests.{AreNamed, HasForm, IsNamed, NamesClass}
-use Rattle.number_sets.specs.Members.{has}
+-- What is named is still there where there is more.
+use Rattle.std.proofs.Common.{◌≡◌, ℕ, ◌+◌, ◌<◌, ◌≤◌, List, length, slice_get, get_or, Some, Contains, refl, subst, sym, ◌∙◌, arith, below_more}
 use Rattle.std.specs.List.{All}
 use Rattle.std.proofs.lemmas.Option.{same_Some, slice_get-get_or, slice_get_within}
 use Rattle.inference.proofs.Lists.{Contains-from_slice_get, slice_get-from_Contains}
@@ -65,67 +55,3 @@ all_have_names c forms k all below form there =
 pub is_closure : (c : Counts) (forms : List Form) (known : Known) → ((form : Form) → Contains forms form → HasNames c form)
     → known ≡ record { properties = c.properties; partials = c.partials; forms = property_forms forms } → IsClosureOf forms known
 is_closure c forms known has is = subst (IsClosureOf forms) (sym is) (record { same = refl; has = λ form there p puts. (has form there).edges p puts })
-
--- ---- rows of what is named
-
--- where no class is such, nothing is put
-pub none_put : (P : Class2 → Type 0) (row : List Bool) → ((a : Class2) → ¬ P a) → ArePut P row row
-none_put P row none = record {
-  long = refl;
-  were = λ k e. e;
-  all = λ k _ is. absurd (none (expression k) is);
-  only = λ k e. inl e;
-}
-
-pub put_as : (P Q : Class2 → Type 0) {old new : List Bool} → ((a : Class2) → P a ↔ Q a) → ArePut P old new → ArePut Q old new
-put_as P Q same put = record {
-  long = put.long;
-  were = put.were;
-  all = λ k low is. put.all k low ((same (expression k)).1 is);
-  only = λ k e. ⊎_elim (λ was. inl was) (λ is. inr ((same (expression k)).0 is)) (put.only k e);
-}
-
--- those that are such in one of two ways
-pub both_put : (P Q R : Class2 → Type 0) {old mid new : List Bool} → ((a : Class2) → R a ↔ (P a ⊎ Q a)) → ArePut P old mid → ArePut Q mid new → ArePut R old new
-both_put P Q R same p q = record {
-  long = q.long ∙ p.long;
-  were = λ k e. q.were k (p.were k e);
-  all = λ k low is. ⊎_elim (λ u. q.were k (p.all k low u)) (λ v. q.all k (omega (arith, low, p.long)) v) ((same (expression k)).0 is);
-  only = λ k e. ⊎_elim
-      (λ mid_has. ⊎_elim (λ was. inl was) (λ u. inr ((same (expression k)).1 (inl u))) (p.only k mid_has))
-      (λ v. inr ((same (expression k)).1 (inr v)))
-      (q.only k e);
-}
-
-module _ {X : Type 0} (Q : X → Class2 → Type 0) (xs : List X) where
-  -- of none
-  pub none_of : (row : List Bool) → ArePut (IsOfOne Q (take 0 xs)) row row
-  none_of row = none_put (IsOfOne Q (take 0 xs)) row (λ a w. Contains-none w.0 w.1)
-
-  -- of one more
-  pub one_more_of : (n : ℕ) (x : X) {old mid new : List Bool} → slice_get xs n ≡ Some x → ArePut (IsOfOne Q (take n xs)) old mid → ArePut (Q x) mid new → ArePut (IsOfOne Q (take (n + 1) xs)) old new
-  one_more_of n x {old = old} {new = new} at p q = subst (λ (ys : List X). ArePut (IsOfOne Q ys) old new) (sym (take_push xs n x at)) (both_put (IsOfOne Q (take n xs)) (Q x) (IsOfOne Q (take n xs ++ x ∷ [])) (λ a. (split a, join a)) p q)
-    where
-      split : (a : Class2) → IsOfOne Q (take n xs ++ x ∷ []) a → IsOfOne Q (take n xs) a ⊎ Q x a
-      split a w = ⊎_elim (λ there. inl (w.0, there, w.2)) (λ e. inr (subst (λ (y : X). Q y a) (sym e) w.2)) (Contains-push_cases (take n xs) x w.0 w.1)
-
-      join : (a : Class2) → IsOfOne Q (take n xs) a ⊎ Q x a → IsOfOne Q (take n xs ++ x ∷ []) a
-      join a h = ⊎_elim (λ w. (w.0, Contains-append_left (take n xs) (x ∷ []) w.0 w.1, w.2)) (λ is. (x, Contains-push (take n xs) x, is)) h
-
-  -- of all
-  pub of_all : (n : ℕ) {old new : List Bool} → length xs ≤ n → ArePut (IsOfOne Q (take n xs)) old new → ArePut (IsOfOne Q xs) old new
-  of_all n {old = old} {new = new} long p = subst (λ (ys : List X). ArePut (IsOfOne Q ys) old new) (take_all n xs long) p
-
--- the classes that forms name, and then those of lists
-pub are_named : (added : Problem) {old mid new : List Bool} → ((k : ℕ) → has old k ≡ false) → ArePut (λ a. HasForm (λ form. NamesClass form a) added.forms) old mid → ArePut (IsOfLists added.apart.classes) mid new → AreNamed added new
-are_named added {old} none forms lists k low =
-    let both = both_put (λ a. HasForm (λ form. NamesClass form a) added.forms) (IsOfLists added.apart.classes) (IsNamed added) (λ a. (split a, join a)) forms lists in (
-      λ e. ⊎_elim (λ was. absurd (false≢true (sym (none k) ∙ was))) (λ is. is) (both.only k e),
-      λ is. both.all k (omega (arith, low, both.long)) is,
-    )
-  where
-    split : (a : Class2) → IsNamed added a → HasForm (λ form. NamesClass form a) added.forms ⊎ IsOfLists added.apart.classes a
-    split a h = ⊎_elim (λ w. inl w) (λ w. inr (w.1, w.3, (w.0, w.4, w.2))) h
-
-    join : (a : Class2) → HasForm (λ form. NamesClass form a) added.forms ⊎ IsOfLists added.apart.classes a → IsNamed added a
-    join a h = ⊎_elim (λ w. inl w) (λ w. inr (w.2.0, w.0, w.2.2, w.1, w.2.1)) h

@@ -1,11 +1,8 @@
 -- The edges that chains that are added need as second premises come to be listed, and what was listed stays right.
-use Rattle.std.proofs.Common.{◌≡◌, ℕ, ◌<◌, ◌≤◌, inl, inr, ⊎_elim, Bool, true, List, length, slice_get, Some, Contains, refl, sym, subst, ◌∙◌, arith}
-use Rattle.std.proofs.lemmas.Bool.{cases_lt}
-use Rattle.std.proofs.lemmas.Option.{slice_get_within}
+use Rattle.std.proofs.Common.{◌≡◌, ℕ, ◌<◌, inl, inr, ⊎_elim, List, slice_get, Some, Contains, refl, sym, subst, ◌∙◌, arith}
 use Rattle.normal_forms.specs.declared.forms.Form.{Form}
 use Rattle.normal_forms.specs.declared.forms.Form.TheVariants.{N1, N2, N3, N4, N5, N6, N7, N8, N9, N10, N12}
 use Rattle.normal_forms.specs.declared.forms.PropId2.{PropId2}
-use Rattle.normal_forms.specs.declared.forms.PropId2.TheVariants.{Property, Partial}
 use Rattle.normal_forms.specs.Properties.{IsAtOrBelow}
 use Rattle.facts.specs.declared.contexts.Context.{Context}
 use Rattle.facts.specs.declared.contexts.Fact.{Fact}
@@ -17,12 +14,11 @@ use Rattle.indexes.specs.FactIndex.{IsFrom, IsIn, IsInto, IsSameButForSeconds, L
 use Rattle.indexes.specs.FormsUnderKeys.{IsUnder}
 use Rattle.indexes.specs.Keys.{by_end, property_key}
 use Rattle.inference.specs.Derivations.{Derived}
-use Rattle.inference.specs.Kinds.{ArePassed, IsLacking}
 use Rattle.inference.specs.Visits.{IsNotCarried}
 use Rattle.indexes.specs.declared.by_context.ByContext.{ByContext}
 use Rattle.inference.proofs.Lists.{one_value}
 use Rattle.saturate.specs.IndexedFacts.{ListsFacts, ListsNeeded}
-use Rattle.saturate.specs.NewSeconds.{HasEnding, IsListedAsSecond, ListsMoreSeconds, NoneEndsFrom}
+use Rattle.saturate.specs.NewSeconds.{IsListedAsSecond, ListsMoreSeconds, NoneEndsFrom}
 
 -- ---- which chains are new
 
@@ -73,25 +69,8 @@ listed_as from k d index n x p y at there z q v is =
     source : {a b : Context} {r s : PropId2} {c d : Context} → Edge a r c ≡ Edge b s d → a ≡ b
     source e = cc
 
--- what is passed over need not be listed
-pub passed_listed : (from : ℕ) (k : Problem) (d : Derived) (index : Index) (row : List Bool) (next to : ℕ) → HasEnding from k.forms row
-    → ArePassed (record { classes = true; properties = row }) d.facts next to
-    → ((n : ℕ) → n < next → IsListedAsSecond from k d index n) → (n : ℕ) → n < to → IsListedAsSecond from k d index n
-passed_listed from k d index row next to has passed before n low = ⊎_elim
-    (λ below. before n below)
-    (λ high x p y at. inr (inl (lacking p (passed n (Edge x p y) high low at))))
-    (cases_lt n next)
-  where
-    lacking : (p : PropId2) → IsLacking row p → NoneEndsFrom from k.forms p
-    lacking (Property p) lacks = has p.0 lacks.0 lacks.1
-    lacking (Partial n) lacks = absurd lacks
-
 pub still_listed_for : {d : Derived} {old new : Index} (from : ℕ) (k : Problem) (n : ℕ) → ListsMoreSeconds d.facts old new → IsListedAsSecond from k d old n → IsListedAsSecond from k d new n
 still_listed_for from k n more listed x p y at = ⊎_elim (λ there. inl (more.kept x n there)) (λ none. inr none) (listed x p y at)
-
--- past the facts there is nothing to list
-pub all_listed_for : (from : ℕ) (k : Problem) (d : Derived) (index : Index) (end : ℕ) → length d.facts ≤ end → ((n : ℕ) → n < end → IsListedAsSecond from k d index n) → (n : ℕ) → IsListedAsSecond from k d index n
-all_listed_for from k d index end long each n x p y at = each n (omega (arith, slice_get_within d.facts n (Edge x p y) at, long)) x p y at
 
 -- ---- what the index lists is right still
 

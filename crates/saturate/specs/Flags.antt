@@ -1,11 +1,18 @@
 -- Numbers that are flagged.
-use Rattle.std.specs.Prelude.{◌≡◌, ◌≢◌, ◌↔◌, ◌⊎◌, ℕ, Bool, true, false, not, List, [], ◌∷◌, ◌++◌, slice_index_or, Option, Some}
+use Rattle.std.specs.Prelude.{◌≡◌, ◌≢◌, ◌↔◌, ◌⊎◌, ◌<◌, ℕ, Bool, true, false, not, List, [], ◌∷◌, ◌++◌, slice_index_or, Option, Some}
 use Rattle.std.specs.List.{Contains, filter}
+use Rattle.facts.specs.declared.contexts.Context.{Context}
+use Rattle.facts.specs.declared.contexts.Context.TheVariants.{Individual}
 use Rattle.facts.specs.declared.contexts.Fact.{Fact}
 use Rattle.facts.specs.Closure.{Problem}
+use Rattle.normal_forms.specs.declared.forms.Form.{Form}
+use Rattle.normal_forms.specs.declared.forms.Form.TheVariants.{N10, N12}
 use Rattle.indexes.specs.declared.index.Index.{Index}
+use Rattle.indexes.specs.Contexts.{at_context}
+use Rattle.indexes.specs.FactIndex.{IsIndex}
+use Rattle.inference.specs.Visits.{AreWithin}
 use Rattle.inference.specs.Derivations.{Derived}
-use Rattle.saturate.specs.Requests.{IsSuchAt}
+use Rattle.saturate.specs.Requests.{Denies, IsSuchAt}
 use Rattle.saturate.specs.IndexedFacts.{ListsFacts}
 use Rattle.saturate.specs.Turns.{option_list}
 
@@ -32,6 +39,10 @@ AreThoseFlagged flags numbers = (n : ℕ) → (is_flagged flags n ≡ true) ↔ 
 pub record AreFlaggedToo (P : ℕ → Type 0) (old new : List Bool) : Type 0 where
   pub each : (n : ℕ) → (is_flagged new n ≡ true) ↔ ((is_flagged old n ≡ true) ⊎ P n)
 
+-- the number is such for one of these
+abbrev pub IsSuchForOne : {X : Type 0} → (X → ℕ → Type 0) → List X → ℕ → Type 0
+IsSuchForOne {X} Q xs n = (x : X) × Contains xs x × Q x n
+
 -- that number is flagged, and each other as it was
 pub record HasOneFlagMore (n : ℕ) (old new : List Bool) : Type 0 where
   pub here : is_flagged new n ≡ true
@@ -41,6 +52,24 @@ pub record HasOneFlagMore (n : ℕ) (old new : List Bool) : Type 0 where
 pub record IsFlagged (P : Fact → Type 0) (facts : List Fact) (flags : List Bool) (n : ℕ) : Type 0 where
   pub yes : is_flagged flags n ≡ true → IsSuchAt P facts n
   pub no : is_flagged flags n ≡ false → ¬ IsSuchAt P facts n
+
+-- the fact of that number is listed at the context
+abbrev pub IsListedAt : Index → Context → ℕ → Type 0
+IsListedAt index x n = Contains (at_context index.classes x) n ⊎ (Contains (at_context index.from x) n ⊎ Contains (at_context index.into x) n)
+
+-- the numbers that are listed are below the bound
+abbrev pub AreListedBelow : ℕ → Index → Type 0
+AreListedBelow bound index = (x : Context) (n : ℕ) → IsListedAt index x n → n < bound
+
+-- the fact is listed at an individual that the form makes one with another, or is an edge that the form denies
+abbrev pub IsListedFor : List Form → Index → List Fact → Form → ℕ → Type 0
+IsListedFor all index facts (N10 a b) n = IsListedAt index (Individual a) n ⊎ IsListedAt index (Individual b) n
+IsListedFor all index facts (N12 a r b) n = Contains (at_context index.from (Individual a)) n × IsSuchAt (Denies all (N12 a r b)) facts n
+IsListedFor all index facts _ n = ⊥
+
+-- of the numbers whose facts the index lists exactly those are flagged whose facts are such
+abbrev pub FlagsServed : (Fact → Type 0) → List Fact → Index → List Bool → Type 0
+FlagsServed P facts index flags = (served most : List ℕ) → AreWithin facts served → IsIndex facts served most index → (n : ℕ) → Contains served n → IsFlagged P facts flags n
 
 -- an index that lists the facts of some numbers, and then that one too, unless it is flagged
 abbrev pub ListsUnlessFlagged : Problem → Derived → List Bool → ℕ → Index → Index → Type 0

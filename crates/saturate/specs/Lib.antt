@@ -3,7 +3,6 @@ pub mod State
 pub mod Run
 pub mod IndexedFacts
 pub mod ServedFacts
-pub mod Naming
 pub mod Requests
 pub mod Flags
 pub mod Growth

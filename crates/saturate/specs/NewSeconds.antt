@@ -1,10 +1,8 @@
 -- Which edges chains that are added need as second premises, and how they come to be listed as such.
-use Rattle.std.specs.Prelude.{◌≡◌, ◌⊎◌, ◌<◌, ℕ, Bool, false, List, length, slice_get, Some}
+use Rattle.std.specs.Prelude.{◌≡◌, ◌⊎◌, ℕ, List, slice_get, Some}
 use Rattle.std.specs.List.{Contains}
 use Rattle.normal_forms.specs.declared.forms.Form.{Form}
 use Rattle.normal_forms.specs.declared.forms.PropId2.{PropId2}
-use Rattle.number_sets.specs.Members.{has}
-use Rattle.property_closure.specs.Relations.{as_property}
 use Rattle.facts.specs.declared.contexts.Context.{Context}
 use Rattle.facts.specs.declared.contexts.Fact.{Fact}
 use Rattle.facts.specs.declared.contexts.Fact.TheVariants.{Edge}
@@ -20,10 +18,6 @@ use Rattle.saturate.specs.Growth.{EachFrom}
 -- none of the forms from that number on is a chain that ends with the property, or with one above it
 abbrev pub NoneEndsFrom : ℕ → List Form → PropId2 → Type 0
 NoneEndsFrom from forms p = EachFrom (λ form. ¬ EndsAbove forms p form) from forms
-
--- of no property that the row lacks such a chain is there
-abbrev pub HasEnding : ℕ → List Form → List Bool → Type 0
-HasEnding from forms row = (k : ℕ) → k < length row → has row k ≡ false → NoneEndsFrom from forms (as_property k)
 
 -- more edges may be listed as second premises, from their sources; else both list the same
 pub record ListsMoreSeconds (facts : List Fact) (old new : Index) : Type 0 where

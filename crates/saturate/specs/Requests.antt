@@ -1,5 +1,5 @@
 -- Which facts forms and lists of disjoint classes that are added ask for: what they give with others has to be drawn again.
-use Rattle.std.specs.Prelude.{◌≡◌, ◌⊎◌, ◌↔◌, ◌<◌, ℕ, Bool, true, false, List, [], length, slice_get, Some}
+use Rattle.std.specs.Prelude.{◌≡◌, ◌⊎◌, ◌↔◌, ◌+◌, ◌<◌, ℕ, List, [], slice_get, Some}
 use Rattle.std.specs.List.{Contains}
 use Rattle.axioms.specs.declared.ids.ExprId.{ExprId}
 use Rattle.axioms.specs.declared.ids.IndId.{IndId}
@@ -9,21 +9,17 @@ use Rattle.normal_forms.specs.declared.forms.Form.{Form}
 use Rattle.normal_forms.specs.declared.forms.Form.TheVariants.{N1, N2, N3, N4, N5, N6, N7, N10, N12}
 use Rattle.normal_forms.specs.declared.forms.Class2.{Class2}
 use Rattle.normal_forms.specs.declared.forms.Class2.TheVariants.{Expr}
-use Rattle.number_sets.specs.Members.{has}
 use Rattle.normal_forms.specs.declared.forms.PropId2.{PropId2}
-use Rattle.normal_forms.specs.declared.forms.PropId2.TheVariants.{Property}
+use Rattle.normal_forms.specs.declared.forms.PropId2.TheVariants.{Property, Partial}
 use Rattle.normal_forms.specs.Properties.{IsAtOrBelow}
 use Rattle.property_closure.specs.PropertyClosures.{Known, Has}
-use Rattle.property_closure.specs.Relations.{as_property}
 use Rattle.facts.specs.declared.contexts.Context.{Context}
 use Rattle.facts.specs.declared.contexts.Context.TheVariants.{Individual}
 use Rattle.facts.specs.declared.contexts.Fact.{Fact}
 use Rattle.facts.specs.declared.contexts.Fact.TheVariants.{In, Edge}
 use Rattle.facts.specs.Closure.{Problem, thing}
-use Rattle.indexes.specs.Apart.{IsInList}
 use Rattle.inference.specs.PropertyClosures.{IsClosureOf}
-use Rattle.inference.specs.Kinds.{Kinds, IsPassed}
-use Rattle.inference.specs.Visits.{HasProperty}
+use Rattle.inference.specs.Visits.{HasProperty, IsBy}
 
 -- one of the two individuals
 abbrev pub IsOneOf : IndId → IndId → Context → Type 0
@@ -65,10 +61,10 @@ NamesAbove forms (N5 r s) p = IsAtOrBelow forms p (Property r)
 NamesAbove forms (N6 r s t) p = IsAtOrBelow forms p r
 NamesAbove forms _ p = ⊥
 
--- the form makes the individual one with another
-abbrev pub NamesIndividual : Form → Context → Type 0
-NamesIndividual (N10 a b) x = IsOneOf a b x
-NamesIndividual _ x = ⊥
+-- the fact is an edge, and the form names its property so
+abbrev pub NamesEdge : List Form → Form → Fact → Type 0
+NamesEdge forms form (In a x) = ⊥
+NamesEdge forms form (Edge x p y) = NamesAbove forms form p
 
 -- the form denies the edge
 abbrev pub Denies : List Form → Form → Fact → Type 0
@@ -78,10 +74,6 @@ Denies forms _ _ = ⊥
 -- the form asks for no fact
 abbrev pub AsksNothing : Form → Type 0
 AsksNothing form = (forms : List Form) (f : Fact) → ¬ Asks forms form f
-
--- the form asks for no edge
-abbrev pub AsksForNoEdge : Form → Type 0
-AsksForNoEdge form = (forms : List Form) (x : Context) (p : PropId2) (y : Context) → ¬ Asks forms form (Edge x p y)
 
 -- the fact puts something into a class that the form names
 abbrev pub IsOfNamed : Form → Fact → Type 0
@@ -97,10 +89,6 @@ abbrev pub BeginsFresh : Known → Form → Type 0
 BeginsFresh closure (N5 r s) = ¬ Has closure (Property r)
 BeginsFresh closure (N6 r s t) = ¬ Has closure r
 BeginsFresh closure _ = ⊥
-
--- none of the forms asks for an edge
-abbrev pub LeaveEdges : List Form → Type 0
-LeaveEdges forms = (form : Form) → Contains forms form → AsksForNoEdge form
 
 -- the form puts the property below another, or is a chain that begins with it
 abbrev pub BeginsWith : Form → PropId2 → Type 0
@@ -119,14 +107,6 @@ HasForm P forms = (form : Form) × Contains forms form × P form
 -- the fact puts something into a class that one of the forms names
 abbrev pub IsOfNamedClass : List Form → Fact → Type 0
 IsOfNamedClass forms f = HasForm (λ form. IsOfNamed form f) forms
-
--- one of the forms names the class, or one of the lists has it
-abbrev pub IsNamed : Problem → Class2 → Type 0
-IsNamed added a = HasForm (λ form. NamesClass form a) added.forms ⊎ IsInList added a
-
--- of each expression below the row's length the row says whether one of the forms names it, or one of the lists has it
-abbrev pub AreNamed : Problem → List Bool → Type 0
-AreNamed added row = (k : ℕ) → k < length row → (has row k ≡ true) ↔ IsNamed added (Expr (record { 0 = k }))
 
 -- one of the forms asks for the fact, by all forms
 abbrev pub IsAskedByForm : List Form → List Form → Fact → Type 0
@@ -173,30 +153,18 @@ IsSuchAt {X} P xs n = (x : X) × (slice_get xs n ≡ Some x) × P x
 abbrev pub IsAskedAt : Problem → Problem → List Fact → ℕ → Type 0
 IsAskedAt before now facts n = IsSuchAt (IsAskedAnew before now) facts n
 
+-- the fact is an edge by the property, for which one of the forms asks
+abbrev pub NamesEdgeBy : List Form → List Form → PropId2 → Fact → Type 0
+NamesEdgeBy all forms p f = IsBy p f × HasForm (λ form. NamesAbove all form p) forms
+
+-- the property has that number, where the prefixes of chains come behind the properties
+abbrev pub IsNumbered : Known → ℕ → PropId2 → Type 0
+IsNumbered closure n (Property p) = (n ≡ p.0) × (n < closure.properties)
+IsNumbered closure n (Partial m) = n ≡ closure.properties + m
+
 -- one of the added forms is such, or none is, by all forms, if the closure is that of all
 abbrev pub HasUnder : Known → (List Form → Form → Type 0) → List Form → Type 0
 HasUnder closure P added = (all : List Form) → IsClosureOf all closure → HasForm (P all) added
 
 abbrev pub LacksUnder : Known → (List Form → Form → Type 0) → List Form → Type 0
 LacksUnder closure P added = (all : List Form) → IsClosureOf all closure → HasForm (P all) added → ⊥
-
--- the form makes no individuals one, and denies no pair
-abbrev pub LeavesIndividuals : Form → Type 0
-LeavesIndividuals (N10 a b) = ⊥
-LeavesIndividuals (N12 a r b) = ⊥
-LeavesIndividuals _ = Unit {0}
-
--- one of the added forms or lists asks for the fact, or none does, by all forms, if the closure is that of all
-abbrev pub IsAskedUnder : Known → Problem → Fact → Type 0
-IsAskedUnder closure added f = (all : List Form) → IsClosureOf all closure → IsAsked all added f
-
-abbrev pub IsUnaskedUnder : Known → Problem → Fact → Type 0
-IsUnaskedUnder closure added f = (all : List Form) → IsClosureOf all closure → IsAsked all added f → ⊥
-
--- of no property that the row lacks an added form names one at or above it
-abbrev pub HasNamed : Known → List Form → List Bool → Type 0
-HasNamed closure added row = (k : ℕ) → k < length row → has row k ≡ false → LacksUnder closure (λ all form. NamesAbove all form (as_property k)) added
-
--- none of the added forms or lists asks for a fact of the kinds
-abbrev pub AreUnasked : Known → Problem → Kinds → Type 0
-AreUnasked closure added kinds = (f : Fact) → IsPassed kinds f → IsUnaskedUnder closure added f

@@ -2,110 +2,60 @@
 ghost use Rattle.saturate.specs.IndexedFacts.{ListsFacts, ListsServed};
 ghost use Rattle.inference.specs.Derivations.{IsDerived};
 ghost use Rattle.normal_forms.specs.Apart.{AreContinuedBy};
-ghost use Rattle.saturate.specs.Flags.{IsFlagged, ListsServedStill, ListsThoseKept, ListsUnlessFlagged, kept};
+ghost use Rattle.saturate.specs.Flags.{AreListedBelow, FlagsServed, ListsServedStill, ListsThoseKept, ListsUnlessFlagged, kept};
 ghost use Rattle.saturate.specs.GoingOn.{GoOn, HasEntered, HaveTurns, IsBegun, Stay};
 ghost use Rattle.saturate.specs.Growth.{EachFrom, IsGrownFrom, KeepsServed, LeavesEntries};
 ghost use Rattle.saturate.specs.NewSeconds.{ListsMoreSeconds};
-ghost use Rattle.saturate.specs.Requests.{IsAsked, IsAskedAnew, problem_of};
+ghost use Rattle.saturate.specs.Requests.{IsAskedAnew};
 ghost use Rattle.saturate.specs.Turns.{option_list};
 ghost use Rattle.inference.specs.Completeness.{AreEntered, IsCompleteUpToRedundancy};
 ghost use Rattle.inference.specs.Draws.{Draws};
 ghost use Rattle.std.specs.Prelude.{◌≡◌, ◌↔◌, ◌<◌, ◌≤◌, ◌++◌, ℕ, None, Contains, List, IfOk, IsTrue, OnErr, OnOk, Some, length, take};
 
-use crate::additions::{asks_for, may_ask_for_some_edges};
+use crate::asked_facts::flags_of_asked;
 use crate::flags::Flags;
 use crate::ground::Ground;
-use crate::named_classes::named_classes;
-use crate::named_facts::{ask_by_class, flags_of_named, sought};
+use crate::named_facts::{ask_by_class, flags_of_named};
 use crate::new_forms::new_forms;
 use crate::new_lists::new_lists;
 use crate::new_seconds::list_seconds;
 use crate::queue::Queue;
-use crate::told_facts::passed_kinds;
 use axioms::Memory;
 use facts::Fact;
 use indexes::{Index, IndexedProblem};
 use inference::{KnownFacts, Rules, Stop, is_filler, is_second_premise};
-use normal_forms::{ApartLists, Form, FormList};
+use normal_forms::{Form, FormList};
 use std::alloc::Global;
 use work_list::WorkList;
 
-/// For how many classes the facts of each are sought, rather than each fact looked at. It decides nothing.
-const FEW_CLASSES: usize = 16;
-
-/// Of each fact whether one of the forms or lists of the added problem asks for it.
-fn looked_at_each(
-    alloc: Global,
-    ground: &Ground,
-    added: &IndexedProblem,
-    facts: &KnownFacts,
-) -> Result<Flags, Memory>
-    requires { IsDerived ground.now facts.now }
-    ensures few { IfOk result (λ flags. length flags ≤ length facts.now.facts) }
-    ensures flags { IfOk result (λ flags. (n : ℕ) → n < length facts.now.facts → IsFlagged (IsAsked ground.now.forms added.now) facts.now.facts flags n) }
-{
-    let closure = ground.closure();
-    let end = expected_contexts(ground.problem()).min(u32::MAX as usize) as u32;
-    let classes = named_classes(alloc, added, end)?;
-    let edges = may_ask_for_some_edges(added);
-    let kinds = passed_kinds(alloc, added, closure)?;
-    let mut flags = Flags::new(alloc, facts.len())?;
-    let mut from: usize = 0;
-    while let Some(place) = facts.next_besides(&kinds, from) {
-        if asks_for(added, &classes, edges, closure, facts.get(place)) {
-            flags.add(place)?;
-        }
-        from = place as usize + 1;
-    }
-    Ok(flags)
-}
-
-/// Of each fact whether one of the added forms or lists asks for it, by a look at each.
-fn flagged(
-    alloc: Global,
-    ground: &Ground,
-    forms: FormList,
-    apart: ApartLists,
-    facts: &KnownFacts,
-) -> Result<Flags, Memory>
-    requires { IsDerived ground.now facts.now }
-    ensures few { IfOk result (λ flags. length flags ≤ length facts.now.facts) }
-    ensures flags { IfOk result (λ flags. (n : ℕ) → n < length facts.now.facts → IsFlagged (IsAsked ground.now.forms (problem_of forms apart)) facts.now.facts flags n) }
-{
-    let added = IndexedProblem::new(alloc, forms, apart, Vec::new(alloc))?;
-    let flags = looked_at_each(alloc, ground, &added, facts);
-    drop(added);
-    flags
-}
-
-/// Of the facts that are served whether a new one of the forms from that number on, or a new list, asks for them.
-fn flags_of<W: WorkList>(
+/// Of the facts that the index lists whether a new one of the forms from that number on, or a new list, asks for them.
+fn flags_of(
     alloc: Global,
     earlier: &Ground,
     ground: &Ground,
     from: usize,
+    index: &Index,
     facts: &KnownFacts,
-    queue: &Queue<W>,
 ) -> Result<Flags, Memory>
     requires earlier { take from ground.now.forms ≡ earlier.now.forms }
     requires lists { AreContinuedBy earlier.now.apart ground.now.apart }
     requires before { IsDerived earlier.now facts.now }
     requires derived { IsDerived ground.now facts.now }
-    requires served { (n : ℕ) → Contains queue.now.served n → n < length facts.now.facts }
+    requires below { AreListedBelow (length facts.now.facts) index.now }
     ensures few { IfOk result (λ flags. length flags ≤ length facts.now.facts) }
-    ensures flags { IfOk result (λ flags. (n : ℕ) → Contains queue.now.served n → IsFlagged (IsAskedAnew earlier.now ground.now) facts.now.facts flags n) }
+    ensures flags { IfOk result (λ flags. FlagsServed (IsAskedAnew earlier.now ground.now) facts.now.facts index.now flags) }
 {
-    if queue.served() == 0 {
+    if facts.len() == 0 {
         return Flags::new(alloc, 0);
     }
     let before = earlier.problem();
     let now = ground.problem();
     let forms = new_forms(alloc, before, now.forms(), from)?;
     let apart = new_lists(alloc, before.apart(), now.apart())?;
-    if ask_by_class(earlier.closure(), &forms, &apart) && sought(&forms, facts) <= FEW_CLASSES {
+    if ask_by_class(earlier.closure(), &forms, &apart) {
         return flags_of_named(alloc, &forms, facts);
     }
-    flagged(alloc, ground, forms, apart, facts)
+    flags_of_asked(alloc, ground, forms, apart, index, facts)
 }
 
 /// Lists the fact of that number, unless it is flagged.
@@ -388,12 +338,12 @@ pub(crate) fn carry_on<W: WorkList>(
     ensures err { OnErr result (Stay facts.old facts.new queue.old queue.new) }
     ensures index { OnErr result (ListsMoreSeconds facts.old.facts index.old index.new) }
 {
-    let flags = flags_of(alloc, earlier, ground, from, facts, queue)?;
+    let flags = flags_of(alloc, earlier, ground, from, index, facts)?;
     let few = queue.served().saturating_mul(LOOKS_FOR_A_FACT);
     let all = ground.problem().forms();
     let entered = entered_roots(earlier.problem(), all, from);
     if looked_at(index, facts, &flags) < few {
-        list_seconds(alloc, ground, from, facts, index)?;
+        list_seconds(ground, from, facts, index)?;
         return listed_still(alloc, ground, facts, queue, index, &flags, entered);
     }
     listed_anew(alloc, ground, facts, queue, index, &flags, entered)

@@ -1,7 +1,7 @@
 //! Saturation: all facts that normal forms lead to, in any order of work.
 #![tactic(auto)]
 
-mod additions;
+mod asked_facts;
 mod counts;
 mod earlier_forms;
 mod extension;
@@ -11,17 +11,16 @@ mod form_keys;
 mod ground;
 mod laws;
 mod listed_facts;
-mod named_classes;
 mod named_facts;
 mod new_forms;
 mod new_lists;
 mod new_seconds;
+mod numbered_properties;
 mod order;
 mod queue;
 mod settled;
 mod state;
 mod summary;
-mod told_facts;
 
 pub use facts::{Birth, Context, Fact, FactId, Older, StoredFact};
 pub use finished::Finished;

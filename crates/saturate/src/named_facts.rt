@@ -1,15 +1,14 @@
-//! Facts of the classes that forms name, flagged without a look at each fact.
-ghost use Rattle.saturate.specs.Flags.{AreFlaggedToo, IsFlagged};
-ghost use Rattle.inference.specs.Visits.{IsOfClass};
-ghost use Rattle.saturate.specs.Requests.{AskByClass, AsksByClass, IsOfNamed, IsOfNamedClass, IsSuchAt, BeginsFresh, problem_of};
-ghost use Rattle.std.specs.Prelude.{◌≡◌, ◌⊎◌, ◌↔◌, ◌<◌, ◌≤◌, ℕ, IfOk, IsTrue, OnOk, length, true};
+//! Facts of the classes that forms name, which are listed by class.
+ghost use Rattle.inference.specs.Predicates.{SaysAt};
+ghost use Rattle.normal_forms.specs.declared.forms.Class2.{Class2 as AClass};
+ghost use Rattle.saturate.specs.Flags.{AreFlaggedToo, IsFlagged, IsSuchForOne};
+ghost use Rattle.saturate.specs.Requests.{AskByClass, AsksByClass, BeginsFresh, IsOfNamed, IsOfNamedClass, IsSuchAt, NamesClass, problem_of};
+ghost use Rattle.std.specs.Prelude.{◌≡◌, ◌⊎◌, ◌↔◌, ◌<◌, ◌≤◌, ℕ, IfOk, OnOk, Some, length, true};
 
 use crate::flags::Flags;
-use crate::named_classes::class_named;
 use crate::summary::has;
-use axioms::Memory;
-use facts::Fact;
-use inference::KnownFacts;
+use axioms::{ExprId, Memory};
+use inference::{KnownFacts, Predicate};
 use normal_forms::{ApartLists, Class2, Form, FormList, PropId2};
 use property_closure::PropertyClosure;
 use std::alloc::Global;
@@ -45,47 +44,34 @@ pub(crate) fn ask_by_class(closure: &PropertyClosure, forms: &FormList, apart: &
     true
 }
 
-/// Whether the form names a class into which a fact may put something. It decides nothing.
-fn may_find(form: Form, facts: &KnownFacts) -> bool {
-    match class_named(form) {
-        Some(class) => facts.next_in(class, 0).is_some(),
-        None => false,
-    }
-}
-
-/// How many of the forms name a class into which a fact may put something. It decides nothing.
-pub(crate) fn sought(forms: &FormList, facts: &KnownFacts) -> usize {
-    let mut many: usize = 0;
-    for number in 0..forms.len() {
-        if may_find(forms.at(number), facts) {
-            many = many.saturating_add(1);
-        }
-    }
-    many
-}
-
-/// Whether the fact puts something into the class.
-fn is_of(fact: Fact, class: Class2) -> bool
-    ensures { IsTrue result ↔ IsOfClass class fact }
+/// The class that the form names, if it names one.
+fn class_named(form: Form) -> Option<Class2>
+    ensures { (class : AClass) → NamesClass form class ↔ (result ≡ Some class) }
 {
-    match fact {
-        Fact::In(of, _) => of == class,
-        Fact::Edge(..) => false,
+    match form {
+        Form::N1(a, _) => Some(a),
+        Form::N2(a, _, _) => Some(a),
+        Form::N3(a, _, _) => Some(a),
+        Form::N4(_, a, _) => Some(a),
+        Form::N7(_) => Some(Class2::Expr(ExprId::THING)),
+        _ => None,
     }
 }
 
-/// Flags the facts of the class.
-fn flag_class(flags: &mut Flags, class: Class2, facts: &KnownFacts) -> Result<(), Memory>
+/// Flags the facts of the class, or of the property.
+pub(crate) fn flag_all(
+    flags: &mut Flags,
+    predicate: Predicate,
+    facts: &KnownFacts,
+) -> Result<(), Memory>
     requires { length flags.old ≡ length facts.now.facts }
     ensures long { length flags.new ≡ length flags.old }
-    ensures ok { OnOk result (AreFlaggedToo (IsSuchAt (IsOfClass class) facts.now.facts) flags.old flags.new) }
+    ensures ok { OnOk result (AreFlaggedToo (SaysAt predicate facts.now.facts) flags.old flags.new) }
 {
-    let mut from: usize = 0;
-    while let Some(number) = facts.next_in(class, from) {
-        if is_of(facts.get(number), class) {
-            flags.add(number)?;
-        }
-        from = number as usize + 1;
+    let mut next = facts.last_of(predicate);
+    while let Some(number) = next {
+        flags.add(number)?;
+        next = facts.before(number);
     }
     Ok(())
 }
@@ -97,9 +83,25 @@ fn flag_named(flags: &mut Flags, form: Form, facts: &KnownFacts) -> Result<(), M
     ensures ok { OnOk result (AreFlaggedToo (IsSuchAt (IsOfNamed form) facts.now.facts) flags.old flags.new) }
 {
     match class_named(form) {
-        Some(class) => flag_class(flags, class, facts),
+        Some(class) => flag_all(flags, Predicate::Class(class), facts),
         None => Ok(()),
     }
+}
+
+/// Flags the facts of the classes that the forms name.
+pub(crate) fn flag_of_named(
+    flags: &mut Flags,
+    forms: &FormList,
+    facts: &KnownFacts,
+) -> Result<(), Memory>
+    requires { length flags.old ≡ length facts.now.facts }
+    ensures long { length flags.new ≡ length flags.old }
+    ensures ok { OnOk result (AreFlaggedToo (IsSuchForOne (λ form. IsSuchAt (IsOfNamed form) facts.now.facts) forms.now) flags.old flags.new) }
+{
+    for number in 0..forms.len() {
+        flag_named(flags, forms.at(number), facts)?;
+    }
+    Ok(())
 }
 
 /// Flags of the facts of the classes that the forms name.
@@ -112,8 +114,6 @@ pub(crate) fn flags_of_named(
     ensures flags { IfOk result (λ flags. (n : ℕ) → n < length facts.now.facts → IsFlagged (IsOfNamedClass forms.now) facts.now.facts flags n) }
 {
     let mut flags = Flags::new(alloc, facts.len())?;
-    for number in 0..forms.len() {
-        flag_named(&mut flags, forms.at(number), facts)?;
-    }
+    flag_of_named(&mut flags, forms, facts)?;
     Ok(flags)
 }

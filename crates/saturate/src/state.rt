@@ -1,13 +1,14 @@
 //! The state of a saturation.
 ghost use Rattle.std.specs.Prelude.{OnErr, ◌≡◌, ◌↔◌, ◌<◌, ◌≤◌, ◌+◌, ◌^◌, Ok, Err, Some, true, false, [], Contains, drop, length, slice_get, take, IfOk, OnOk, IfSome, IfNone, IsNone};
 ghost use Rattle.facts.specs.Births.{reason};
+ghost use Rattle.facts.specs.declared.contexts.Fact.{Fact as Fact2};
 ghost use Rattle.inference.specs.Derivations.{HasMoreFactsThan};
 ghost use Rattle.saturate.specs.State.{Extends, GaveFact, ended, nothing_seen};
 ghost use Rattle.saturate.specs.Growth.{HasGrown, KeepsServed};
 ghost use Rattle.saturate.specs.Run.{HasRun, IsLeft, IsState, IsStep};
 ghost use Rattle.inference.specs.PropertyClosures.{IsClosureOf};
 ghost use Rattle.inference.specs.Completeness.{IsClosure};
-ghost use Rattle.inference.specs.Tags.{NoneIn};
+ghost use Rattle.inference.specs.Predicates.{IsLast, end_of, predicate_of};
 ghost use Rattle.normal_forms.specs.Apart.{AreContinuedBy};
 
 use crate::extension::carry_on;
@@ -17,8 +18,10 @@ use crate::queue::Queue;
 use axioms::Memory;
 use facts::{Birth, Context, Fact, FactId, StoredFact};
 use indexes::Index;
-use inference::{BirthList, KnownFacts, Premise, Rules, Stop, is_filler, is_second_premise};
-use normal_forms::{ApartLists, Class2, FormList};
+use inference::{
+    BirthList, KnownFacts, Predicate, Premise, Rules, Stop, is_filler, is_second_premise,
+};
+use normal_forms::{ApartLists, FormList};
 use property_closure::PropertyClosure;
 use std::alloc::Global;
 use std::hash::RandomState;
@@ -243,15 +246,18 @@ impl<W: WorkList> State<W> {
         Some(FactId(number))
     }
 
-    /// Passes over the facts from that number on that put nothing into the class: the number of one that may, if there is any. It looks
-    /// at a byte of each, and at the next where that is the class's.
-    pub fn next_in(&self, class: Class2, from: usize) -> Option<u32>
-        ensures low { IfSome result (λ number. from ≤ number) }
-        ensures high { IfSome result (λ number. number < length self.now.facts) }
-        ensures before { IfSome result (λ number. NoneIn from number self.now.facts class) }
-        ensures none { IsNone result → NoneIn from (length self.now.facts) self.now.facts class }
+    /// The number of the last fact of the class, or of the property, if there is one.
+    pub fn last_of(&self, predicate: Predicate) -> Option<u32>
+        ensures { IsLast predicate self.now.facts (length self.now.facts) (end_of result) }
     {
-        self.facts.next_in(class, from)
+        self.facts.last_of(predicate)
+    }
+
+    /// The number of the last fact of the same class, or of the same property, before the fact of that number, if there is one.
+    pub fn before(&self, number: u32) -> Option<u32>
+        ensures { (f : Fact2) → slice_get self.now.facts number ≡ Some f → IsLast (predicate_of f) self.now.facts number (end_of result) }
+    {
+        self.facts.before(number)
     }
 
     /// How many facts are served.

@@ -32,7 +32,7 @@ mod numbered;
 #[cfg(test)]
 mod orders;
 #[cfg(test)]
-mod passed_kinds;
+mod predicates;
 #[cfg(test)]
 mod problems;
 #[cfg(test)]
@@ -41,8 +41,6 @@ mod refused_pushes;
 mod second_premises;
 #[cfg(test)]
 mod steps;
-#[cfg(test)]
-mod tagged;
 #[cfg(test)]
 mod targets;
 #[cfg(test)]

@@ -4,30 +4,34 @@ use Rattle.std.proofs.lemmas.Result.{on_err_weaker, on_ok_weaker}
 use Rattle.saturate.specs.Flags.{kept}
 use Rattle.saturate.specs.NewSeconds.{ListsMoreSeconds}
 use Rattle.saturate.proofs.Flagging.{keeps_served, keeps_served_then}
+use Rattle.saturate.proofs.Listed.{listed_below}
 use Rattle.saturate.proofs.NewSeconds.{listed_with_more, same_seconds}
 use Rattle.saturate.proofs.Staying.{entered_then, listed_then}
 use Rattle.saturate.proofs.extension.carry_on.Goals as goal
+
+pub flags_of-requires-clause-below : goal.flags_of-requires-clause-below
+flags_of-requires-clause-below g c = listed_below c.args.facts.now.facts c.args.queue.now.served _ c.args.index.now c.requires.listed.by_context
 
 pub listed_still-requires-clause-listed : goal.listed_still-requires-clause-listed
 listed_still-requires-clause-listed g c =
     let served : List ℕ = c.args.queue.now.served in
     let flags = c.in_ok-flags.flags in
     listed_then c.args.from c.requires.grown c.in_ok-list_seconds.ensures.listed (kept flags served)
-    (keeps_served c.args.earlier.now c.args.ground.now c.args.facts.now.facts flags served c.in_ok-flags.ensures.flags)
+    (keeps_served c.args.earlier.now c.args.ground.now c.args.facts.now.facts flags served (c.in_ok-flags.ensures.flags served _ c.requires.turns.served c.requires.listed.by_context))
     (listed_with_more c.in_ok-list_seconds.ensures.more c.requires.listed)
 
 pub returns-then-looked_at-few-clause-served : goal.returns-then-looked_at-few-clause-served
 returns-then-looked_at-few-clause-served g c =
     on_ok_weaker c.listed_still.result
     (λ is. keeps_served_then c.args.earlier.now c.args.ground.now c.args.facts.now.facts c.in_ok-flags.flags c.args.queue.now.served c.listed_still.new.queue.served is
-    c.in_ok-flags.ensures.flags)
+    (c.in_ok-flags.ensures.flags c.args.queue.now.served _ c.requires.turns.served c.requires.listed.by_context))
     c.listed_still.ensures.served
 
 pub returns-clause-served : goal.returns-clause-served
 returns-clause-served g c =
     on_ok_weaker c.listed_anew.result
     (λ is. keeps_served_then c.args.earlier.now c.args.ground.now c.args.facts.now.facts c.in_ok-flags.flags c.args.queue.now.served c.listed_anew.new.queue.served is
-    c.in_ok-flags.ensures.flags)
+    (c.in_ok-flags.ensures.flags c.args.queue.now.served _ c.requires.turns.served c.requires.listed.by_context))
     c.listed_anew.ensures.served
 
 pub listed_still-requires-clause-entered : goal.listed_still-requires-clause-entered

@@ -1,7 +1,0 @@
-use Rattle.std.proofs.Common.{◌≡◌, ◌<◌, ℕ, slice_get, Some}
-use Rattle.normal_forms.specs.declared.forms.Form.{Form}
-use Rattle.saturate.specs.Requests.{AsksForNoEdge}
-use Rattle.saturate.proofs.additions.may_ask_for_some_edges.Given as goal
-
-abbrev pub invariant-loop-number : goal.invariant-loop-number
-invariant-loop-number l = (n : ℕ) (form : Form) → n < l.number → slice_get l.added.forms n ≡ Some form → AsksForNoEdge form

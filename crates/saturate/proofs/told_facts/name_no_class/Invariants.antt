@@ -1,8 +1,0 @@
-use Rattle.std.proofs.Common.{◌≡◌, ◌<◌, ℕ, slice_get, Some}
-use Rattle.normal_forms.specs.declared.forms.Class2.{Class2}
-use Rattle.normal_forms.specs.declared.forms.Form.{Form}
-use Rattle.saturate.specs.Requests.{NamesClass}
-use Rattle.saturate.proofs.told_facts.name_no_class.Given as goal
-
-abbrev pub invariant-loop-number : goal.invariant-loop-number
-invariant-loop-number l = (n : ℕ) (form : Form) → n < l.number → slice_get l.forms n ≡ Some form → (a : Class2) → ¬ NamesClass form a
