@@ -33,10 +33,6 @@ one_more forms numbers i listed l low is says before = record {
   say = λ m c. ⊎_elim (λ there. before.say m there) (λ same. subst (SaysItsForm forms) same says) (Contains-push_cases listed l m c);
 }
 
--- of no number no form is listed
-pub of_none : (forms : List Form) (listed : List ListedForm) → listed ≡ [] → AreOf forms [] listed
-of_none forms listed is = rw is (record { numbers_are = refl; say = λ l c. absurd (Contains-none l c) })
-
 -- the forms of one list
 list_of : (starts : List ℕ) (forms : List Form) (numbers : List ℕ) (listed : List ListedForm) (k : ℕ) → AreOf forms numbers listed → AreOf forms (list_at starts numbers k) (list_at starts listed k)
 list_of starts forms numbers listed k are =
@@ -133,9 +129,6 @@ led key forms lists beside k result is numbers are =
     }
 
 -- ---- forms of lists that have changed, one after the other
-
-pub none_changed : (forms : List Form) (led : List (List ListedForm)) → led ≡ [] → AreChangedForms forms [] led
-none_changed forms led is = rw is tt
 
 one_longer : (forms : List Form) (lists : List (Key × List ℕ)) (led : List (List ListedForm)) (c : Key × List ℕ) (d : List ListedForm) → AreOf forms c.1 d → AreChangedForms forms lists led → AreChangedForms forms (lists ++ c ∷ []) (led ++ d ∷ [])
 one_longer forms [] [] c d of are = (of, tt)

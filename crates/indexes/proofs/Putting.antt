@@ -86,13 +86,6 @@ ends_still lists old new key end above after before elsewhere low fewer lower nu
     let none = before number (omega (arith, fewer, past)) in
     (none.0, elsewhere (Whole number) (λ e. let high = low number (sym e) in absurd (omega (arith, high, lower, past))) ∙ none.1)
 
--- the numbers of the list of a key that has changed, or has not
-pub few_changed : (lists : FormLists) (k : Key) (many : ℕ) (list : List ℕ) → changed_at lists.changed.items k ≡ Some list → many ≤ length (listed_at lists k) → many ≤ length list
-few_changed lists k many list at few = subst (λ (o : Option (List ℕ)). many ≤ length (changed_or o (at_key lists.shared.value k))) at few
-
-pub few_shared : (lists : FormLists) (k : Key) (many : ℕ) (numbers : List ℕ) → changed_at lists.changed.items k ≡ None → numbers ≡ at_key lists.shared.value k → many ≤ length (listed_at lists k) → many ≤ length numbers
-few_shared lists k many numbers none is few = rw (is) (subst (λ (o : Option (List ℕ)). many ≤ length (changed_or o (at_key lists.shared.value k))) none few)
-
 -- where no list has a number, none has changed
 pub none_changed : (lists : FormLists) → ListsNothing (listed_at lists) → lists.changed.items ≡ []
 none_changed lists nothing = go lists.changed.items refl

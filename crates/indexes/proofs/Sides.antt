@@ -65,9 +65,6 @@ module _ (operands : List Operand) (are : AreInLists operands) (place : ℕ) (th
         (λ ge. each q b there_b ge high)
         (cases_lt q first)
 
-    pub at_first : first ≤ 0 → IsFirstOf operands place first
-    at_first none = record { below = below; each = each; all = λ q b at low within. omega (arith, none) }
-
     pub at_end_before : (a : Operand) → slice_get operands (first - 1) ≡ Some a → a.behind ≤ 0 → IsFirstOf operands place first
     at_end_before a at none = record {
       below = below;

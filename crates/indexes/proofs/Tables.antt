@@ -58,12 +58,6 @@ pub list_of_set : (lists : List (List ℕ)) (place : ℕ) (new : List ℕ) (n : 
 list_of_set lists place new zero ne = refl
 list_of_set lists place new (suc m) ne = get_or-set_other lists place m new [] (λ e. ne (omega (arith, e)))
 
-pub table_set : (numbers : List ℕ) (lists more : List (List ℕ)) → IsTable numbers lists → length more ≡ length lists → IsTable numbers more
-table_set numbers lists more table long = record {
-  within = λ key. omega (arith, long, table.within key);
-  apart = λ key other ne same. table.apart key other ne same;
-}
-
 pub puts_set : (numbers : List ℕ) (lists : List (List ℕ)) (key place number : ℕ) → IsTable numbers lists → get_or numbers key 0 ≡ place + 1 →
     PutsLast (by_key numbers lists) (by_key numbers (set lists place (at lists place ++ number ∷ []))) key number
 puts_set numbers lists key place number table is k = elim (cases_eq k key) [

@@ -383,13 +383,6 @@ impl IndexedProblem {
         self.index.linked_second.of(Key::Whole(individual.0))
     }
 
-    /// The forms that deny a pair whose source is that individual.
-    pub fn denied(&self, individual: IndId) -> &[u32]
-        ensures { (n : ℕ) → Contains result.now n ↔ IsUnder by_denied self.now.forms (individual_key individual) n }
-    {
-        self.index.denied.of(Key::Whole(individual.0))
-    }
-
     /// The forms that deny a pair of these individuals, in this order.
     pub fn denied_between(&self, source: IndId, target: IndId) -> &[u32]
         ensures { (n : ℕ) → Contains result.now n ↔ (IsUnder by_denied self.now.forms (individual_key source) n × IsUnder by_target self.now.forms (individual_key target) n) }

@@ -8,7 +8,7 @@ ghost use Rattle.inference.specs.Visits.{IsBy};
 ghost use Rattle.facts.specs.declared.contexts.Fact.{Fact as Fact2};
 ghost use Rattle.normal_forms.specs.declared.forms.PropId2.TheVariants as properties;
 ghost use Rattle.inference.specs.declared.known_facts.Stop.TheVariants as stops;
-ghost use Rattle.std.specs.Prelude.{◌≡◌, ◌<◌, ◌≤◌, ◌^◌, ◌∷◌, Some, [], length, take, slice_get, Contains, Ok, IfOk, IfSome, IsNone, OnErr, false, true};
+ghost use Rattle.std.specs.Prelude.{◌≡◌, ◌<◌, ◌^◌, Some, [], length, take, slice_get, Contains, Ok, IfOk, IfSome, IsNone, OnErr, false, true};
 
 use crate::birth_list::BirthList;
 use crate::context_flags::ContextFlags;

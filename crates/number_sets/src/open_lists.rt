@@ -1,7 +1,6 @@
 //! Lists that grow in any order.
 ghost use Rattle.number_sets.specs.Pieces.{list_at};
-ghost use Rattle.number_sets.specs.Transposition.{copies};
-ghost use Rattle.std.specs.Prelude.{◌<◌, ◌≡◌, ◌++◌, ◌∷◌, [], IfOk, OnErr, OnOk, length, replicate, slice_set, ℕ};
+ghost use Rattle.std.specs.Prelude.{◌<◌, ◌≡◌, ◌++◌, ◌∷◌, [], IfOk, OnErr, OnOk, length, replicate, slice_set};
 
 use crate::packed_lists::PackedLists;
 use std::alloc::{AllocError, Global};
@@ -86,19 +85,5 @@ impl<T: Copy> OpenLists<T> {
             packed.push_list(list)?;
         }
         Ok(packed)
-    }
-}
-
-impl OpenLists {
-    /// Adds `x` at the end of the list of each of these numbers.
-    pub(crate) fn push_to_each(&mut self, numbers: &[u32], x: u32) -> Result<(), AllocError>
-        ensures len { OnOk result (length self.new ≡ length self.old) }
-        ensures each { OnOk result
-            ((k : ℕ) → k < length self.old → list_at self.new k ≡ list_at self.old k ++ copies x k numbers.now) }
-    {
-        for k in numbers {
-            self.push(*k as usize, x)?;
-        }
-        Ok(())
     }
 }

@@ -1,5 +1,5 @@
 //! The state of a saturation.
-ghost use Rattle.std.specs.Prelude.{OnErr, ◌≡◌, ◌↔◌, ◌<◌, ◌≤◌, ◌+◌, ◌^◌, Ok, Err, Some, true, false, [], Contains, drop, length, slice_get, take, IfOk, OnOk, IfSome, IfNone, IsNone};
+ghost use Rattle.std.specs.Prelude.{OnErr, ◌≡◌, ◌↔◌, ◌<◌, ◌≤◌, ◌+◌, ◌^◌, Ok, Err, Some, true, false, [], Contains, drop, length, slice_get, take, IfOk, OnOk, IfSome, IfNone};
 ghost use Rattle.facts.specs.Births.{reason};
 ghost use Rattle.facts.specs.declared.contexts.Fact.{Fact as Fact2};
 ghost use Rattle.inference.specs.Derivations.{HasMoreFactsThan};

@@ -1,4 +1,0 @@
-use Rattle.indexes.proofs.indexed_problem.IndexedProblem.denied.Goals as goal
-
-pub returns : goal.returns
-returns c = λ n. rw (← c.self.view_is, c.of.ensures) (c.self.invariant.index.listed.denied _ n)
