@@ -1,8 +1,8 @@
 -- Bits in words, and rows as bits.
-use Rattle.std.proofs.Common.{◌≡◌, ℕ, zero, suc, ◌+◌, ◌*◌, ◌/◌, ◌%◌, ◌-◌, ◌^◌, ◌<◌, ◌≤◌, ◌≢◌, min, max, Bool, true, false, not, ◌&&◌, ◌||◌, nat_eq, bit_and, bit_or, List, length, get_or, set, slice_index, replicate, true≢false, refl, sym, ap, ap₂, ◌∙◌, arith, inl, inr}
+use Rattle.std.proofs.Common.{◌≡◌, ℕ, zero, suc, ◌+◌, ◌*◌, ◌/◌, ◌%◌, ◌-◌, ◌++◌, ◌^◌, ◌<◌, ◌≤◌, ◌≢◌, min, max, Bool, true, false, not, ◌&&◌, ◌||◌, nat_eq, bit_and, bit_or, List, length, get_or, set, slice_index, replicate, true≢false, refl, sym, ap, ap₂, ◌∙◌, arith, inl, inr}
 use Rattle.std.specs.Int.{bit_at}
 use Rattle.std.proofs.lemmas.Bool.{cases_lt, cases_eq}
-use Rattle.std.proofs.lemmas.List.{get_or_past, get_or-set_same, get_or-set_other, length-set, length-replicate, get_or-replicate, same_lists}
+use Rattle.std.proofs.lemmas.List.{get_or_past, get_or-set_same, get_or-set_other, length-append, length-set, length-replicate, get_or-replicate, get_or_append_left, get_or-append_right, same_lists}
 use Rattle.std.proofs.lemmas.Nat.{one_shl}
 use Rattle.std.proofs.lemmas.Nat.Bits.{bit_at_or, bit_at_and, bit_at_xor, bit_at-zero, bit_at-lt, bit_at_above, bit_at_ones, bit_at_ones_above, same_from_bits}
 use Rattle.number_sets.specs.Members.{has}
@@ -202,6 +202,35 @@ zeroes (suc n) (suc i) = zeroes n i
 
 pub no_bits : (count k : ℕ) → bit_of (replicate count 0) k ≡ false
 no_bits count k = ap (λ w. Bit w (k % 64)) (zeroes count (k / 64)) ∙ no_bit (k % 64)
+
+-- ---- further numbers, of which none is a member
+
+bit_behind : (words : List ℕ) (more k : ℕ) → bit_of (words ++ replicate more 0) k ≡ bit_of words k
+bit_behind words more k = ap (λ (w : ℕ). Bit w (k % 64)) (elim (cases_lt (k / 64) (length words)) [
+  | inl l ↦ get_or_append_left words (replicate more 0) 0 (k / 64) l
+  | inr l ↦ get_or-append_right words (replicate more 0) (length words) (k / 64) 0 refl l ∙ zeroes more (k / 64 - length words) ∙ sym (get_or_past words (k / 64) 0 l)
+])
+
+pub extended_row : (n m more : ℕ) (words : List ℕ) → IsRow n words → n ≤ m → more + (n + 63) / 64 ≡ (m + 63) / 64 → IsRow m (words ++ replicate more 0)
+extended_row n m more words r low is =
+    let many = length-append words (replicate more 0) ∙ ap (λ (k : ℕ). length words + k) (length-replicate {A = ℕ} more 0) in
+    record {
+      long = omega (arith, many, is, r.long, r.short);
+      short = omega (arith, many, is, r.long, r.short);
+      clear = λ k past. bit_behind words more k ∙ r.clear k (omega (arith, low, past));
+    }
+
+pub extended_bits : (n m more : ℕ) (words : List ℕ) → IsRow n words → n ≤ m → bits_of m (words ++ replicate more 0) ≡ bits_of n words ++ replicate (m - n) false
+extended_bits n m more words r low =
+    let before = bits_of n words in
+    let behind = replicate (m - n) false in
+    let long = length_bits m (words ++ replicate more 0) in
+    let many = length-append before behind ∙ ap₂ (λ (a b : ℕ). a + b) (length_bits n words) (length-replicate {A = Bool} (m - n) false) in
+    same_lists (bits_of m (words ++ replicate more 0)) (before ++ behind) (omega (arith, long, many, low)) (λ k d lk.
+    get_or-table m (bit_of (words ++ replicate more 0)) k d (omega (arith, long, lk)) ∙ bit_behind words more k ∙ elim (cases_lt k n) [
+      | inl l ↦ sym (get_or_append_left before behind d k (omega (arith, length_bits n words, l)) ∙ get_or-table n (bit_of words) k d l)
+      | inr l ↦ r.clear k l ∙ sym (get_or-append_right before behind n k d (length_bits n words) l ∙ get_or-replicate (m - n) (k - n) false d (omega (arith, long, lk, l)))
+    ])
 
 -- ---- all numbers below n
 

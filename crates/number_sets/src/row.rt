@@ -1,7 +1,7 @@
 //! Sets of numbers below a bound.
 ghost use Rattle.number_sets.specs.Members.{has};
 ghost use Rattle.number_sets.specs.Words.{is_set};
-ghost use Rattle.std.specs.Prelude.{◌&&◌, ◌*◌, ◌+◌, ◌/◌, ◌<◌, ◌||◌, ◌↔◌, ◌≡◌, IfOk, IsTrue, count_by, false, length, not, replicate, slice_index, slice_set, true, ℕ};
+ghost use Rattle.std.specs.Prelude.{◌&&◌, ◌*◌, ◌+◌, ◌++◌, ◌-◌, ◌/◌, ◌<◌, ◌||◌, ◌↔◌, ◌≡◌, IfOk, IsTrue, count_by, false, length, not, replicate, slice_index, slice_set, true, ℕ};
 
 use crate::row_words::RowWords;
 use crate::words::{are_disjoint, count_words, is_within};
@@ -62,6 +62,18 @@ impl Row {
         Ok(Row {
             len: self.len,
             words: self.words.copy(alloc)?,
+        })
+    }
+
+    /// The same set, of numbers below `n` where that is more.
+    pub fn extended(&self, alloc: Global, n: usize) -> Result<Row, Memory>
+        ensures { IfOk result (λ r. r ≡ self.now ++ replicate (n - length self.now) false) }
+    {
+        let len = self.len.max(n);
+        let more = words_for(len) - words_for(self.len);
+        Ok(Row {
+            len,
+            words: self.words.extended(alloc, more)?,
         })
     }
 

@@ -1,5 +1,5 @@
 //! The words of a row: a single one takes no memory of its own.
-ghost use Rattle.std.specs.Prelude.{◌≡◌, ◌<◌, ℕ, IfOk, bit_and, bit_or, length, replicate, slice_index, slice_set};
+ghost use Rattle.std.specs.Prelude.{◌≡◌, ◌<◌, ◌++◌, ℕ, IfOk, bit_and, bit_or, length, replicate, slice_index, slice_set};
 ghost use Rattle.number_sets.specs.RowWords.{words_of};
 ghost use Rattle.number_sets.specs.Words.{without_bits};
 
@@ -51,6 +51,18 @@ impl RowWords {
             RowWords::One(words) => Ok(RowWords::One(*words)),
             RowWords::Many(words) => Ok(RowWords::Many(words.as_slice().to_vec(alloc)?)),
         }
+    }
+
+    /// The same words, and so many behind them without a bit.
+    pub(crate) fn extended(&self, alloc: Global, more: usize) -> Result<RowWords, Memory>
+        ensures { IfOk result (λ w. words_of w ≡ words_of self.now ++ replicate more 0) }
+    {
+        let further = vec![in alloc; 0; more]?;
+        let words = self.as_slice();
+        let mut all = Vec::with_capacity(alloc, words.len().saturating_add(more))?;
+        all.extend_from_slice(words)?;
+        all.extend_from_slice(&further)?;
+        Ok(RowWords::Many(all))
     }
 
     /// The word of that number becomes that one.
