@@ -69,6 +69,33 @@ fn all_numbers(rt: HostRuntime) -> Result<(), Fail> {
     Ok(())
 }
 
+/// Whether the set of 0 and 69 of numbers below 70 still has them, and no other, where it is extended to numbers below `n`, and takes the
+/// last of those that it is of then.
+fn is_extended(alloc: Global, n: usize, last: usize) -> Result<bool, Memory> {
+    let mut row = row_of(alloc, &[0, 69])?.extended(alloc, n)?;
+    let has_both = row.contains(0) && row.contains(69) && row.count() == 2;
+    Ok(has_both && row.len() == last + 1 && row.put(last) && row.contains(last))
+}
+
+/// Bounds, and the last number of a set of numbers below 70 that is extended to them.
+const BOUNDS: &[(usize, usize)] = &[
+    (0, 69),
+    (70, 69),
+    (71, 70),
+    (128, 127),
+    (129, 128),
+    (1000, 999),
+];
+
+#[test]
+fn extended_sets(rt: HostRuntime) -> Result<(), Fail> {
+    for row in BOUNDS {
+        let (bound, last) = *row;
+        assert!(rt; is_extended(rt.alloc(), bound, last)?, "{bound}");
+    }
+    Ok(())
+}
+
 /// Whether the one set is within the other, and whether no number is in both.
 fn compare<R: Abort>(rt: &R, these: &Row, those: &Row) -> (bool, bool) {
     assert!(rt; these.len() == those.len());

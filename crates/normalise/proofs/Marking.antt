@@ -1,6 +1,6 @@
 -- Marks and what is noted of them: none, one, those of two steps, those of a list; and all that marks reach.
-use Rattle.std.proofs.Common.{◌≡◌, ℕ, zero, suc, ◌+◌, ◌<◌, ◌≤◌, ◌⊎◌, inl, inr, Bool, true, false, List, [], ◌∷◌, ◌++◌, length, set, slice_get, Some, Contains, refl, sym, ap, ◌∙◌, subst, arith, length-set, length-append}
-use Rattle.std.proofs.lemmas.Bool.{cases_eq}
+use Rattle.std.proofs.Common.{◌≡◌, ℕ, zero, suc, ◌+◌, ◌<◌, ◌≤◌, ◌⊎◌, ◌↔◌, inl, inr, Bool, true, false, List, [], ◌∷◌, ◌++◌, length, set, slice_get, Some, Contains, refl, sym, ap, ◌∙◌, subst, arith, length-set, length-append}
+use Rattle.std.proofs.lemmas.Bool.{cases_eq, true≢false}
 use Rattle.std.proofs.lemmas.Option.{none-some, same_Some, slice_get_within}
 use Rattle.std.proofs.lemmas.List.Elements.{All-contains, Contains-push_cases}
 use Rattle.axioms.specs.Ontology.{Ontology, Node, Class, And, Exists, IsPart}
@@ -9,6 +9,7 @@ use Rattle.lemmas.proofs.Choices.{one_value}
 use Rattle.lemmas.proofs.Members.{Contains-from_slice_get, slice_get-from_Contains}
 use Rattle.lemmas.proofs.Places.{keeps_push, slice_get_push, slice_get_there}
 use Rattle.normal_forms.specs.Occurrences.{Reached, itself, part}
+use Rattle.number_sets.specs.Members.{has}
 use Rattle.normalise.specs.declared.marks.Marked.{Marked}
 use Rattle.normalise.specs.Marks.{AreNotedMarked, IsMarked, IsPartOf, Marks, MarksMore, Notes, Closes, EachFrom, EachOf, unmarked}
 use Rattle.normalise.specs.View.{Keeps}
@@ -58,12 +59,31 @@ marks_both P Q m n = record {
   ];
 }
 
+-- what a set has is marked, and what it lacks below its bound is unset
+pub has_mark : (marks : List Bool) (n : ℕ) → (has marks n ≡ true) ↔ IsMarked marks n
+has_mark [] n = (λ h. absurd (true≢false (sym h)), λ h. absurd (none-some true h))
+has_mark (b ∷ marks) zero = (λ h. ap Some h, λ h. same_Some b true h)
+has_mark (b ∷ marks) (suc n) = has_mark marks n
+
+pub lacks_mark : (marks : List Bool) (n : ℕ) → n < length marks → has marks n ≡ false → slice_get marks n ≡ Some false
+lacks_mark [] n l h = absurd (omega arith)
+lacks_mark (b ∷ marks) zero l h = ap Some h
+lacks_mark (b ∷ marks) (suc n) l h = lacks_mark marks n (omega arith) h
+
+pub unset_lacks : (marks : List Bool) (n : ℕ) → slice_get marks n ≡ Some false → (n < length marks) × (has marks n ≡ false)
+unset_lacks marks n h = (slice_get_within marks n false h, go marks n h)
+  where
+    go : (marks : List Bool) (n : ℕ) → slice_get marks n ≡ Some false → has marks n ≡ false
+    go [] n h = refl
+    go (b ∷ marks) zero h = same_Some b false h
+    go (b ∷ marks) (suc n) h = go marks n h
+
 -- ---- with what is noted
 
 pub contains_kept : {X : Type 0} (xs ys : List X) → Keeps xs ys → (x : X) → Contains xs x → Contains ys x
 contains_kept xs ys keeps x c = let p = slice_get-from_Contains xs x c in Contains-from_slice_get ys p.0 x (keeps p.0 x p.1)
 
-pub notes_both : {a b c : Marked} → ((e : ℕ) → IsMarked b.marks.items e → IsMarked c.marks.items e) → Notes a b → Notes b c → Notes a c
+pub notes_both : {a b c : Marked} → ((e : ℕ) → IsMarked b.marks e → IsMarked c.marks e) → Notes a b → Notes b c → Notes a c
 notes_both {a} {b} {c} kept m n = record {
   keeps = λ k x g. n.keeps k x (m.keeps k x g);
   each = λ e h. elim (n.each e h) [
@@ -78,22 +98,22 @@ notes_both {a} {b} {c} kept m n = record {
 }
 
 -- nothing changes, where what P says is marked
-pub more_there : (m : Marked) (P : ℕ → Type 0) → ((e : ℕ) → e < length m.marks.items → P e → IsMarked m.marks.items e) → MarksMore m m P
+pub more_there : (m : Marked) (P : ℕ → Type 0) → ((e : ℕ) → e < length m.marks → P e → IsMarked m.marks e) → MarksMore m m P
 more_there m P there = record {
   marks = record { same_length = refl; kept = λ e h. h; only = λ e h. inl h; all = there };
   notes = record { keeps = λ n x g. g; each = λ e h. inl h; all = λ e h. inl h; count = refl };
 }
 
-pub more_none : (m : Marked) (P : ℕ → Type 0) → ((e : ℕ) → e < length m.marks.items → P e → ⊥) → MarksMore m m P
+pub more_none : (m : Marked) (P : ℕ → Type 0) → ((e : ℕ) → e < length m.marks → P e → ⊥) → MarksMore m m P
 more_none m P none = more_there m P (λ e l p. absurd (none e l p))
 
 -- nothing changes, where it has no mark that could be set
-pub more_kept : (m : Marked) (n : ℕ) → (slice_get m.marks.items n ≡ Some false → ⊥) → MarksMore m m (λ e. e ≡ n)
-more_kept m n out = more_there m (λ e. e ≡ n) (λ e l i. go e i (slice_get_there m.marks.items e l))
+pub more_kept : (m : Marked) (n : ℕ) → (slice_get m.marks n ≡ Some false → ⊥) → MarksMore m m (λ e. e ≡ n)
+more_kept m n out = more_there m (λ e. e ≡ n) (λ e l i. go e i (slice_get_there m.marks e l))
   where
-    go : (e : ℕ) → e ≡ n → ((b : Bool) × (slice_get m.marks.items e ≡ Some b)) → IsMarked m.marks.items e
+    go : (e : ℕ) → e ≡ n → ((b : Bool) × (slice_get m.marks e ≡ Some b)) → IsMarked m.marks e
     go e i (true, g) = g
-    go e i (false, g) = absurd (out (subst (λ k. slice_get m.marks.items k ≡ Some false) i g))
+    go e i (false, g) = absurd (out (subst (λ k. slice_get m.marks k ≡ Some false) i g))
 
 unmarked_set : (xs : List Bool) (n : ℕ) → slice_get xs n ≡ Some false → unmarked (set xs n true) + 1 ≡ unmarked xs
 unmarked_set [] n h = absurd (none-some false h)
@@ -103,24 +123,24 @@ unmarked_set (true ∷ xs) (suc n) h = unmarked_set xs n h
 unmarked_set (false ∷ xs) (suc n) h = omega (arith, unmarked_set xs n h)
 
 -- one is marked, and noted
-pub more_set : (old new : Marked) (n : ℕ) → slice_get old.marks.items n ≡ Some false → new.marks.items ≡ set old.marks.items n true → new.noted.items ≡ old.noted.items ++ n ∷ [] → MarksMore old new (λ e. e ≡ n)
+pub more_set : (old new : Marked) (n : ℕ) → slice_get old.marks n ≡ Some false → new.marks ≡ set old.marks n true → new.noted.items ≡ old.noted.items ++ n ∷ [] → MarksMore old new (λ e. e ≡ n)
 more_set old new n unset em en = record {
   marks = marks;
   notes = record {
     keeps = λ k x g. ap (λ xs. slice_get xs k) en ∙ keeps_push old.noted.items n k x g;
-    each = λ e h. elim (Contains-push_cases old.noted.items n e (subst (λ xs. Contains xs e) en h)) [ inl i ↦ inl i | inr i ↦ inr (subst (IsMarked new.marks.items) i here) ];
+    each = λ e h. elim (Contains-push_cases old.noted.items n e (subst (λ xs. Contains xs e) en h)) [ inl i ↦ inl i | inr i ↦ inr (subst (IsMarked new.marks) i here) ];
     all = λ e h. elim (marks.only e h) [ inl k ↦ inl k | inr q ↦ inr (subst (Contains new.noted.items) (sym q) noted) ];
-    count = omega (arith, ap unmarked em, ap length en, length-append old.noted.items (n ∷ []), unmarked_set old.marks.items n unset);
+    count = omega (arith, ap unmarked em, ap length en, length-append old.noted.items (n ∷ []), unmarked_set old.marks n unset);
   };
 }
   where
-    within : n < length old.marks.items
-    within = slice_get_within old.marks.items n false unset
+    within : n < length old.marks
+    within = slice_get_within old.marks n false unset
 
-    marks : Marks old.marks.items new.marks.items (λ e. e ≡ n)
-    marks = let P : List Bool → Type 0 = λ xs. Marks old.marks.items xs (λ e. e ≡ n) in subst P (sym em) (marks_set old.marks.items n within)
+    marks : Marks old.marks new.marks (λ e. e ≡ n)
+    marks = let P : List Bool → Type 0 = λ xs. Marks old.marks xs (λ e. e ≡ n) in subst P (sym em) (marks_set old.marks n within)
 
-    here : IsMarked new.marks.items n
+    here : IsMarked new.marks n
     here = marks.all n within refl
 
     noted : Contains new.noted.items n
@@ -183,12 +203,12 @@ part_smaller o ok d (Exists r c) e g p = let l : c < d = (ok.nodes d (Exists r c
 
 -- the parts are marked of what is noted before the place
 pub record IsClosing (nodes : List Node) (old now : Marked) (next : ℕ) : Type 0 where
-  pub same_length : length now.marks.items ≡ length old.marks.items
-  pub kept : (e : ℕ) → IsMarked old.marks.items e → IsMarked now.marks.items e
-  pub only : (e : ℕ) → IsMarked now.marks.items e → Reached nodes (IsMarked old.marks.items) e
+  pub same_length : length now.marks ≡ length old.marks
+  pub kept : (e : ℕ) → IsMarked old.marks e → IsMarked now.marks e
+  pub only : (e : ℕ) → IsMarked now.marks e → Reached nodes (IsMarked old.marks) e
   pub notes : Notes old now
   pub noted : AreNotedMarked now
-  pub closed : (i d : ℕ) (node : Node) (e : ℕ) → i < next → slice_get now.noted.items i ≡ Some d → slice_get nodes d ≡ Some node → IsPart node e → e < length now.marks.items → IsMarked now.marks.items e
+  pub closed : (i d : ℕ) (node : Node) (e : ℕ) → i < next → slice_get now.noted.items i ≡ Some d → slice_get nodes d ≡ Some node → IsPart node e → e < length now.marks → IsMarked now.marks e
 
 pub closing_begins : (nodes : List Node) (m : Marked) → AreNotedMarked m → IsClosing nodes m m 0
 closing_begins nodes m noted = record {
@@ -213,7 +233,7 @@ closing_more nodes old now new next d here h step = record {
   closed = λ i k node e l at g p w. closed i k node e l at g p (omega (arith, w, step.marks.same_length));
 }
   where
-    closed : (i k : ℕ) (node : Node) (e : ℕ) → i < next + 1 → slice_get new.noted.items i ≡ Some k → slice_get nodes k ≡ Some node → IsPart node e → e < length now.marks.items → IsMarked new.marks.items e
+    closed : (i k : ℕ) (node : Node) (e : ℕ) → i < next + 1 → slice_get new.noted.items i ≡ Some k → slice_get nodes k ≡ Some node → IsPart node e → e < length now.marks → IsMarked new.marks e
     closed i k node e l at g p w = elim (cases_eq i next) [
       | inl s ↦ (let same : d ≡ k = one_value _ d k (step.notes.keeps next d here) (subst (λ n. slice_get new.noted.items n ≡ Some k) s at) in
           step.marks.all e w (node, subst (λ n. slice_get nodes n ≡ Some node) (sym same) g, p))

@@ -49,12 +49,12 @@ reached_occurs : (At : Axiom → ℕ → Type 0) (p : Ontology) (asked : List �
 reached_occurs At p asked P to e (itself h) = to e h
 reached_occurs At p asked P to e (part d node r g h) = part d node (reached_occurs At p asked P to d r) g h
 
-module _ (At : Axiom → ℕ → Type 0) (p : Ontology) (ok : IsOntology p) (from : ℕ) (asked : List ℕ) (old : List Bool) (start a b c : Marked) (begins : start.marks.items ≡ old ++ replicate (length p.nodes - length old) false)
+module _ (At : Axiom → ℕ → Type 0) (p : Ontology) (ok : IsOntology p) (from : ℕ) (asked : List ℕ) (old : List Bool) (start a b c : Marked) (begins : start.marks ≡ old ++ replicate (length p.nodes - length old) false)
     (first : MarksMore start a (EachFrom p.axioms At from (length p.axioms))) (second : MarksMore a b (Contains asked)) (closed : Closes p.nodes b c) where
   notes : Notes start c
   notes = notes_both closed.kept (more_both (EachFrom p.axioms At from (length p.axioms)) (Contains asked) first second).notes closed.notes
 
-  long : length c.marks.items ≡ length old + (length p.nodes - length old)
+  long : length c.marks ≡ length old + (length p.nodes - length old)
   long = omega (arith, closed.same_length, second.marks.same_length, first.marks.same_length, ap length begins, length-append old (replicate (length p.nodes - length old) false), replicate_long (length p.nodes - length old))
 
   pub noted_again : AreNoted old c
@@ -64,18 +64,18 @@ module _ (At : Axiom → ℕ → Type 0) (p : Ontology) (ok : IsOntology p) (fro
     | inr k ↦ inr k
   ]
 
-  pub long_again : length c.marks.items ≡ length old + (length p.nodes - length old)
+  pub long_again : length c.marks ≡ length old + (length p.nodes - length old)
   unfolding long
   long_again = long
 
-  still : (e : ℕ) → IsMarked old e → IsMarked c.marks.items e
+  still : (e : ℕ) → IsMarked old e → IsMarked c.marks e
   still e h = closed.kept e (second.marks.kept e (first.marks.kept e (subst (λ xs. IsMarked xs e) (sym begins) (marked_still old (replicate (length p.nodes - length old) false) e h))))
 
   module _ (o : Ontology) (before : List ℕ) (marks : MarksOccurring At o before old) (there : AreThere At o) (w : Grows o p from) (more : (e : ℕ) → Contains before e → Contains asked e) where
     occurs_before : (e : ℕ) → IsMarked old e → Occurs At o before e
     occurs_before e h = (marks.1 e (omega (arith, marks.0, slice_get_within old e true h))).0 h
 
-    occurs : (e : ℕ) → IsMarked b.marks.items e → Occurs At p asked e
+    occurs : (e : ℕ) → IsMarked b.marks e → Occurs At p asked e
     unfolding occurs_before
     occurs e h = elim (second.marks.only e h) [
       | inl k ↦ elim (first.marks.only e k) [
@@ -86,11 +86,11 @@ module _ (At : Axiom → ℕ → Type 0) (p : Ontology) (ok : IsOntology p) (fro
     ]
 
     -- the numbers that are there have marks
-    within : (e : ℕ) → e < length p.nodes → e < length c.marks.items
+    within : (e : ℕ) → e < length p.nodes → e < length c.marks
     unfolding long
     within e l = omega (arith, long)
 
-    marked : (e : ℕ) → e < length p.nodes → Occurs At p asked e → IsMarked c.marks.items e
+    marked : (e : ℕ) → e < length p.nodes → Occurs At p asked e → IsMarked c.marks e
     unfolding still occurs_before notes within long
     marked e l (itself (inl (x, c', at))) =
         let q = slice_get-from_Contains p.axioms x c' in
@@ -102,7 +102,7 @@ module _ (At : Axiom → ℕ → Type 0) (p : Ontology) (ok : IsOntology p) (fro
           | inr (inr high) ↦ new_axiom e l q.0 x (omega arith) q.1 at
         ]
       where
-        new_axiom : (e : ℕ) → e < length p.nodes → (n : ℕ) (x : Axiom) → from ≤ n → slice_get p.axioms n ≡ Some x → At x e → IsMarked c.marks.items e
+        new_axiom : (e : ℕ) → e < length p.nodes → (n : ℕ) (x : Axiom) → from ≤ n → slice_get p.axioms n ≡ Some x → At x e → IsMarked c.marks e
         new_axiom e l n x high g at = closed.kept e (second.marks.kept e (first.marks.all e (omega (arith, within e l, closed.same_length, second.marks.same_length, first.marks.same_length)) (n, high, slice_get_within p.axioms n x g, (x, g, at))))
     marked e l (itself (inr k)) = closed.kept e (second.marks.all e (omega (arith, within e l, closed.same_length, second.marks.same_length)) k)
     marked e l (part d node r g h) =
@@ -115,12 +115,12 @@ module _ (At : Axiom → ℕ → Type 0) (p : Ontology) (ok : IsOntology p) (fro
           | inr k ↦ closed.closed d node e k g h (within e l)
         ]
 
-    pub marked_again : MarksOccurring At p asked c.marks.items
+    pub marked_again : MarksOccurring At p asked c.marks
     unfolding occurs marked long
     marked_again = (
       omega (arith, long, keeps_long o.nodes p.nodes w.nodes, marks.0),
       λ e l. (
-        (λ h. reached_occurs At p asked (IsMarked b.marks.items) occurs e (closed.only e h)),
+        (λ h. reached_occurs At p asked (IsMarked b.marks) occurs e (closed.only e h)),
         (λ h. marked e l h),
       ),
     )

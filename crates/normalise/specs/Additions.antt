@@ -14,6 +14,6 @@ joined v m = record {
   operands = m.made.operands;
   steps = m.made.steps;
   asked = expr_numbers m.asked.items;
-  right = m.right.items;
-  left = m.left.items;
+  right = m.right;
+  left = m.left;
 }

@@ -104,7 +104,7 @@ AreMarkedAgain At p from asked old new = (o : Ontology) (before : List ℕ) → 
 
 -- what is marked and was not before is noted
 abbrev pub AreNoted : List Bool → Marked → Type 0
-AreNoted before m = (e : ℕ) → IsMarked m.marks.items e → IsMarked before e ⊎ Contains m.noted.items e
+AreNoted before m = (e : ℕ) → IsMarked m.marks e → IsMarked before e ⊎ Contains m.noted.items e
 
 -- behind the fresh names of v: the forms of the axioms of p from that place on, and then of what is marked now and was not before
 pub record MakesMore (p : Ontology) (from : ℕ) (v : Listing) (right left : List Bool) (new : Made) : Type 0 where

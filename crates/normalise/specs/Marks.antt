@@ -32,26 +32,26 @@ unmarked (false ∷ marks) = suc (unmarked marks)
 -- behind the numbers of old, new has noted what it has marked newly, each once
 pub record Notes (old new : Marked) : Type 0 where
   pub keeps : Keeps old.noted.items new.noted.items
-  pub each : (e : ℕ) → Contains new.noted.items e → Contains old.noted.items e ⊎ IsMarked new.marks.items e
-  pub all : (e : ℕ) → IsMarked new.marks.items e → IsMarked old.marks.items e ⊎ Contains new.noted.items e
-  pub count : unmarked new.marks.items + length new.noted.items ≡ unmarked old.marks.items + length old.noted.items
+  pub each : (e : ℕ) → Contains new.noted.items e → Contains old.noted.items e ⊎ IsMarked new.marks e
+  pub all : (e : ℕ) → IsMarked new.marks e → IsMarked old.marks e ⊎ Contains new.noted.items e
+  pub count : unmarked new.marks + length new.noted.items ≡ unmarked old.marks + length old.noted.items
 
 -- new has the marks of old, and those that P says, and has noted those that are new
 pub record MarksMore (old new : Marked) (P : ℕ → Type 0) : Type 0 where
-  pub marks : Marks old.marks.items new.marks.items P
+  pub marks : Marks old.marks new.marks P
   pub notes : Notes old new
 
 -- what is noted is marked
 abbrev pub AreNotedMarked : Marked → Type 0
-AreNotedMarked m = (e : ℕ) → Contains m.noted.items e → IsMarked m.marks.items e
+AreNotedMarked m = (e : ℕ) → Contains m.noted.items e → IsMarked m.marks e
 
 -- new has the marks of old and others that these reach; and the parts of what is noted are marked
 pub record Closes (nodes : List Node) (old new : Marked) : Type 0 where
-  pub same_length : length new.marks.items ≡ length old.marks.items
-  pub kept : (e : ℕ) → IsMarked old.marks.items e → IsMarked new.marks.items e
-  pub only : (e : ℕ) → IsMarked new.marks.items e → Reached nodes (IsMarked old.marks.items) e
+  pub same_length : length new.marks ≡ length old.marks
+  pub kept : (e : ℕ) → IsMarked old.marks e → IsMarked new.marks e
+  pub only : (e : ℕ) → IsMarked new.marks e → Reached nodes (IsMarked old.marks) e
   pub notes : Notes old new
-  pub closed : (d : ℕ) (node : Node) (e : ℕ) → Contains new.noted.items d → slice_get nodes d ≡ Some node → IsPart node e → e < length new.marks.items → IsMarked new.marks.items e
+  pub closed : (d : ℕ) (node : Node) (e : ℕ) → Contains new.noted.items d → slice_get nodes d ≡ Some node → IsPart node e → e < length new.marks → IsMarked new.marks e
 
 -- a part of the expression of that number
 abbrev pub IsPartOf : List Node → ℕ → ℕ → Type 0

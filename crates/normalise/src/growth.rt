@@ -12,6 +12,7 @@ use crate::new_marks::{Change, numbers_of};
 use crate::normal::Normal;
 use crate::occurring::occurring_again;
 use axioms::{ExprId, Memory, Ontology};
+use number_sets::Row;
 use std::alloc::Global;
 use std::hash::RandomState;
 
@@ -52,8 +53,8 @@ fn with_asked(alloc: Global, asked: &[ExprId], expr: ExprId) -> Result<Vec<ExprI
 pub(crate) struct More {
     pub(crate) made: Made,
     pub(crate) asked: Vec<ExprId>,
-    pub(crate) right: Vec<bool>,
-    pub(crate) left: Vec<bool>,
+    pub(crate) right: Row,
+    pub(crate) left: Row,
 }
 
 impl Normal {
@@ -68,7 +69,7 @@ impl Normal {
         requires within { from ≤ length ontology.now.axioms }
         requires right { AreNoted self.now.right right.now }
         requires left { AreNoted self.now.left left.now }
-        ensures { IfOk result (MakesMore ontology.now from self.now right.now.marks.items left.now.marks.items) }
+        ensures { IfOk result (MakesMore ontology.now from self.now right.now.marks left.now.marks) }
     {
         ontology.well_formed();
         let numbers = numbers_of(self.alloc, &right.noted, &left.noted)?;
@@ -211,7 +212,7 @@ pub fn normalise(alloc: Global, state: RandomState, ontology: &Ontology) -> Resu
     ensures forms { IfOk result (λ n. IsNormalFor ontology.now n) }
     ensures asked { IfOk result (λ n. n.asked ≡ []) }
 {
-    let mut normal = Normal::empty(alloc, state);
+    let mut normal = Normal::empty(alloc, state)?;
     normal.extend(ontology, 0)?;
     Ok(normal)
 }

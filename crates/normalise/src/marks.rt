@@ -7,6 +7,7 @@ ghost use Rattle.normal_forms.specs.Occurrences.{AtLeft, AtRight};
 ghost use Rattle.normalise.specs.Marks.{AreNotedMarked, AtSide, Closes, EachFrom, IsPartOf, MarksMore};
 
 use axioms::{Axiom, Expr, ExprId, Memory, Ontology};
+use number_sets::Row;
 
 /// A side on which expressions occur.
 #[derive(Clone, Copy)]
@@ -20,15 +21,15 @@ pub(crate) enum Side {
 /// Which expressions are marked, by number, and the numbers of those that were marked since the start.
 #[derive(Drop)]
 pub(crate) struct Marked {
-    pub(crate) marks: Vec<bool>,
+    pub(crate) marks: Row,
     pub(crate) noted: Vec<u32>,
 }
 
 // Whether there is a mark of that number, and it is not set.
-fn is_unset(marks: &[bool], number: usize) -> bool
+fn is_unset(marks: &Row, number: usize) -> bool
     ensures { IsTrue result ↔ (slice_get marks.now number ≡ Some false) }
 {
-    number < marks.len() && !marks[number]
+    number < marks.len() && !marks.contains(number)
 }
 
 impl Marked {
@@ -40,7 +41,7 @@ impl Marked {
         if is_unset(&self.marks, place) {
             let ExprId(number) = id;
             self.noted.push(number)?;
-            self.marks[place] = true;
+            self.marks.put(place);
         }
         Ok(())
     }

@@ -3,23 +3,16 @@ ghost use Rattle.std.specs.Prelude.{◌↔◌, ◌⊎◌, ℕ, IfOk, IsTrue};
 ghost use Rattle.std.specs.List.{Contains};
 ghost use Rattle.axioms.specs.WellFormedness.{AreDistinct};
 ghost use Rattle.normalise.specs.Growth.{IsFreshAt};
-ghost use Rattle.normalise.specs.Marks.{IsMarked};
 
 use axioms::Memory;
-use number_sets::sort_ascending;
+use number_sets::{Row, sort_ascending};
 use std::alloc::Global;
-
-fn is_marked(marks: &[bool], k: usize) -> bool
-    ensures { IsTrue result ↔ IsMarked marks.now k }
-{
-    k < marks.len() && marks[k]
-}
 
 /// Which expressions are marked now, and which were before.
 #[derive(Clone, Copy)]
 pub(crate) struct Change<'a> {
-    pub(crate) marks: &'a [bool],
-    pub(crate) before: &'a [bool],
+    pub(crate) marks: &'a Row,
+    pub(crate) before: &'a Row,
 }
 
 impl<'a> Change<'a> {
@@ -27,7 +20,7 @@ impl<'a> Change<'a> {
     pub(crate) fn is_fresh(self, number: usize) -> bool
         ensures { IsTrue result ↔ IsFreshAt self.entry.marks.now self.entry.before.now number }
     {
-        is_marked(self.marks, number) && !is_marked(self.before, number)
+        self.marks.contains(number) && !self.before.contains(number)
     }
 }
 

@@ -7,6 +7,7 @@ ghost use Rattle.normalise.specs.Entries.{form_in, origin_in};
 use crate::made::Made;
 use axioms::{ExprId, Memory, PropId};
 use normal_forms::{ApartLists, FormList, Origin};
+use number_sets::Row;
 use std::alloc::Global;
 use std::hash::RandomState;
 use std::marker::Model;
@@ -18,8 +19,8 @@ pub struct Normal {
     pub(crate) made: Made,
     pub(crate) asked: Vec<ExprId>,
     // of each expression, whether it occurs right, and left
-    pub(crate) right: Vec<bool>,
-    pub(crate) left: Vec<bool>,
+    pub(crate) right: Row,
+    pub(crate) left: Row,
 }
 
 // A value is let go by one call, where each way out would else let each field go.
@@ -51,25 +52,27 @@ impl Model for Normal {
       operands = n.made.operands;
       steps = n.made.steps;
       asked = expr_numbers n.asked.items;
-      right = n.right.items;
-      left = n.left.items;
+      right = n.right;
+      left = n.left;
     } };
 
-    ghost invariant = { λ n. AreNamedBelow (length n.right.items) n.made.entries n.made.apart.lists.classes };
+    ghost invariant = { λ n. AreNamedBelow (length n.right) n.made.entries n.made.apart.lists.classes };
 }
 
 impl Normal {
     // No forms.
-    pub(crate) fn empty(alloc: Global, state: RandomState) -> Normal
-        ensures { result ≡ record { entries = []; apart = no_lists; disjoint_axioms = []; different_axioms = []; operands = []; steps = []; asked = []; right = []; left = [] } }
+    pub(crate) fn empty(alloc: Global, state: RandomState) -> Result<Normal, Memory>
+        ensures { IfOk result (λ n. n ≡ record { entries = []; apart = no_lists; disjoint_axioms = []; different_axioms = []; operands = []; steps = []; asked = []; right = []; left = [] }) }
     {
-        Normal {
+        let right = Row::new(alloc, 0)?;
+        let left = Row::new(alloc, 0)?;
+        Ok(Normal {
             alloc,
             made: Made::new(alloc, state),
             asked: Vec::new(alloc),
-            right: Vec::new(alloc),
-            left: Vec::new(alloc),
-        }
+            right,
+            left,
+        })
     }
 
     /// The forms, by number from 0.
@@ -162,8 +165,8 @@ impl Normal {
         ensures { IfOk result (λ n. n ≡ self.now) }
     {
         let asked = self.asked.clone()?;
-        let right = self.right.clone()?;
-        let left = self.left.clone()?;
+        let right = self.right.copy(self.alloc)?;
+        let left = self.left.copy(self.alloc)?;
         let made = self.made.copy(self.alloc)?;
         Ok(Normal {
             alloc: self.alloc,

@@ -5,7 +5,7 @@ use Rattle.normalise.proofs.marks.Marked.mark.Goals as goal
 
 pub returns-in_ok-push : goal.returns-in_ok-push
 returns-in_ok-push c =
-    let marks = c.args.self.now.marks.items in
+    let marks = c.args.self.now.marks in
     more_set c.args.self.now _ c.args.id.0
     (subst (λ n. slice_get marks n ≡ Some false) c.index-place.ensures (subst (λ xs. slice_get xs c.index-place.result ≡ Some false) c.deref.ensures.value (c.is_unset.ensures.0 c.if-is_unset.true)))
     (ap (λ n. set marks n true) c.index-place.ensures) c.in_ok-push.ensures.items
@@ -13,4 +13,4 @@ returns-in_ok-push c =
 pub returns-else-is_unset : goal.returns-else-is_unset
 returns-else-is_unset c =
     more_kept c.args.self.now c.args.id.0 (λ g. true≢false (sym (c.is_unset.ensures.1
-    (subst (λ xs. slice_get xs c.index-place.result ≡ Some false) (sym c.deref.ensures.value) (subst (λ n. slice_get c.args.self.now.marks.items n ≡ Some false) (sym c.index-place.ensures) g))) ∙ c.if-is_unset.false))
+    (subst (λ xs. slice_get xs c.index-place.result ≡ Some false) (sym c.deref.ensures.value) (subst (λ n. slice_get c.args.self.now.marks n ≡ Some false) (sym c.index-place.ensures) g))) ∙ c.if-is_unset.false))

@@ -15,7 +15,7 @@ pub returns-clause-forms : goal.returns-clause-forms
 returns-clause-forms c = λ more o n w.
     let p = c.args.ontology.now in let v = c.args.self.now in let from = c.args.from in
     let asked = expr_numbers c.args.asked.items in
-    let right = c.in_ok-right.right.marks.items in let left = c.in_ok-left.left.marks.items in
+    let right = c.in_ok-right.right.marks in let left = c.in_ok-left.left.marks in
     let named : AreNamedBelowMarks v = subst AreNamedBelowMarks c.self.view_is c.self.invariant in
     let right_again : AreMarkedAgain AtRight p from asked v.right right =
     subst (λ b. AreMarkedAgain AtRight p from asked b right) (c.deref.ensures.value ∙ ap (λ (v : Listing). v.right) c.self.view_is)
@@ -31,8 +31,8 @@ returns-clause-forms c = λ more o n w.
 pub returns-clause-named : goal.returns-clause-named
 returns-clause-named c =
     let p = c.args.ontology.now in let v = c.args.self.now in
-    let right = c.in_ok-right.right.marks.items in
+    let right = c.in_ok-right.right.marks in
     let named : AreNamedBelowMarks v = subst AreNamedBelowMarks c.self.view_is c.self.invariant in
     let before : length c.deref.result.now ≡ length v.right = ap length (c.deref.ensures.value ∙ ap (λ (v : Listing). v.right) c.self.view_is) in
-    named_more p c.args.from v right c.in_ok-left.left.marks.items c.in_ok-made.made c.well_formed-2.ensures c.in_ok-made.ensures named (length right)
+    named_more p c.args.from v right c.in_ok-left.left.marks c.in_ok-made.made c.well_formed-2.ensures c.in_ok-made.ensures named (length right)
     (omega (arith, before, c.in_ok-right.ensures.long)) (omega (arith, before, c.in_ok-right.ensures.long))
