@@ -16,7 +16,7 @@ use Rattle.normal_forms.specs.declared.forms.Form as code_form
 use Rattle.normal_forms.specs.declared.forms.Form.TheVariants as forms
 use Rattle.normal_forms.specs.declared.forms.Origin.{Origin}
 use Rattle.normal_forms.specs.declared.forms.Origin.TheVariants as origins
-use Rattle.normal_forms.specs.Forms.{Class2, Form, Whole, Prefix, N1, N2, N3, N4, N5, N6, N7, N8, N9, N10, N12}
+use Rattle.normal_forms.specs.Forms.{Class2, Form, Whole, Prefix, N1, N2, N4, N8}
 use Rattle.normal_forms.specs.Occurrences.{AtLeft, AtRight}
 use Rattle.normal_forms.specs.Origins.{AxiomGives, disjoint, subsumed}
 use Rattle.normalise.specs.Apart.{disjoint_classes}
