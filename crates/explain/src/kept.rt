@@ -5,6 +5,7 @@ ghost use Rattle.explain.specs.LineMarks.{AreKept, ArePremisesMarked};
 
 use axioms::Memory;
 use certificate::Line;
+use number_sets::Row;
 use std::alloc::Global;
 
 // The new numbers of lines, which are counted from 1.
@@ -25,7 +26,7 @@ fn renumbered(alloc: Global, places: &[u64], numbers: &[u64]) -> Result<Vec<u64>
 /// # Errors
 ///
 /// `Memory` where memory was refused.
-pub(crate) fn kept(alloc: Global, lines: &[Line], marks: &[bool]) -> Result<Vec<Line>, Memory>
+pub(crate) fn kept(alloc: Global, lines: &[Line], marks: &Row) -> Result<Vec<Line>, Memory>
     requires within { length marks.now ≤ length lines.now }
     requires marked { ArePremisesMarked (lines_of lines.now) marks.now }
     ensures { IfOk result (λ v. AreKept (lines_of lines.now) marks.now (lines_of v.items)) }
@@ -33,7 +34,7 @@ pub(crate) fn kept(alloc: Global, lines: &[Line], marks: &[bool]) -> Result<Vec<
     let mut kept = Vec::new(alloc);
     let mut places = Vec::new(alloc);
     for place in 0..marks.len() {
-        if marks[place] {
+        if marks.contains(place) {
             let line = &lines[place];
             let premises = renumbered(alloc, &places, &line.premises)?;
             kept.push(Line {

@@ -3,20 +3,11 @@ ghost use Rattle.explain.specs.Marks.{AreClosed, IsMarked, ServesLater};
 ghost use Rattle.explain.specs.Uses.{RestsOn};
 ghost use Rattle.std.specs.Prelude.{◌↔◌, ◌<◌, ◌≤◌, ◌≡◌, ◌⊎◌, ◌^◌, length, ℕ};
 
-use crate::marks::is_blank;
+use crate::marks::{is_blank, mark};
 use crate::older::rests_on;
 use engine::Closed;
 use facts::{FactId, Older};
 use number_sets::Row;
-
-fn mark(marks: &mut Row, fact: FactId)
-    requires { fact.0 < length marks.old }
-    ensures long { length marks.new ≡ length marks.old }
-    ensures exact { (n : ℕ) → IsMarked marks.new n ↔ (IsMarked marks.old n ⊎ (n ≡ fact.0)) }
-{
-    let FactId(number) = fact;
-    marks.put(number as usize);
-}
 
 // Marks what the line of the fact rests on.
 fn mark_below(closed: &Closed<'_>, fact: FactId, marks: &mut Row)
@@ -32,10 +23,10 @@ fn mark_below(closed: &Closed<'_>, fact: FactId, marks: &mut Row)
     };
     match rests_on(closed.normal(), birth) {
         Older::None => {}
-        Older::One(only) => mark(marks, only),
+        Older::One(only) => mark(marks, only.0 as usize),
         Older::Two(first, second) => {
-            mark(marks, first);
-            mark(marks, second);
+            mark(marks, first.0 as usize);
+            mark(marks, second.0 as usize);
         }
     }
 }

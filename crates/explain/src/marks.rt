@@ -1,7 +1,7 @@
-//! Marks on facts, one bit for each.
+//! Marks on facts and on lines, one bit for each.
 ghost use Rattle.explain.specs.Marks.{IsMarked};
 ghost use Rattle.number_sets.specs.Members.{has};
-ghost use Rattle.std.specs.Prelude.{◌%◌, ◌+◌, ◌/◌, ◌<◌, ◌≡◌, ◌≤◌, ◌↔◌, IfOk, IsTrue, false, length, suc, ℕ};
+ghost use Rattle.std.specs.Prelude.{◌%◌, ◌+◌, ◌/◌, ◌<◌, ◌≡◌, ◌≤◌, ◌↔◌, ◌⊎◌, IfOk, IsTrue, false, length, suc, ℕ};
 
 use axioms::Memory;
 use number_sets::Row;
@@ -25,6 +25,15 @@ pub(crate) fn is_blank_block(marks: &Row, first: usize) -> bool
         && is_blank(marks, word + 1)
         && is_blank(marks, word + 2)
         && is_blank(marks, word + 3)
+}
+
+/// Marks that place.
+pub(crate) fn mark(marks: &mut Row, place: usize)
+    requires { place < length marks.old }
+    ensures long { length marks.new ≡ length marks.old }
+    ensures exact { (n : ℕ) → IsMarked marks.new n ↔ (IsMarked marks.old n ⊎ (n ≡ place)) }
+{
+    marks.put(place);
 }
 
 /// Marks up to the goal, which is counted from 1: the goal alone is marked.

@@ -4,21 +4,14 @@ ghost use Rattle.std.specs.Prelude.{◌↔◌, ◌<◌, ◌≤◌, ◌≡◌, �
 ghost use Rattle.explain.specs.LineMarks.{ArePremisesBefore, MarksRests};
 ghost use Rattle.explain.specs.Marks.{IsMarked};
 
+use crate::marks::{goal_mark, mark};
 use axioms::Memory;
 use certificate::Line;
+use number_sets::Row;
 use std::alloc::Global;
 
-// Marks the line at the place, counted from 0.
-fn mark(marks: &mut [bool], place: usize)
-    requires { place < length marks.old }
-    ensures long { length marks.new ≡ length marks.old }
-    ensures exact { (n : ℕ) → IsMarked marks.new n ↔ (IsMarked marks.old n ⊎ (n ≡ place)) }
-{
-    marks[place] = true;
-}
-
 // Marks the lines of these numbers, counted from 1.
-fn mark_each(numbers: &[u64], marks: &mut [bool])
+fn mark_each(numbers: &[u64], marks: &mut Row)
     requires { All (λ n. (0 < n) × (n ≤ length marks.old)) numbers.now }
     ensures long { length marks.new ≡ length marks.old }
     ensures exact { (n : ℕ) → IsMarked marks.new n ↔ (IsMarked marks.old n ⊎ Contains numbers.now (suc n)) }
@@ -29,28 +22,17 @@ fn mark_each(numbers: &[u64], marks: &mut [bool])
 }
 
 // Marks what marked lines rest on, from the last to the first.
-fn mark_premises(lines: &[Line], marks: &mut [bool])
+fn mark_premises(lines: &[Line], marks: &mut Row)
     requires before { ArePremisesBefore (lines_of lines.now) }
     requires within { length marks.old ≤ length lines.now }
     ensures long { length marks.new ≡ length marks.old }
     ensures exact { (goal : ℕ) → ((n : ℕ) → IsMarked marks.old n ↔ (suc n ≡ goal)) → MarksRests (lines_of lines.now) goal marks.new }
 {
     for place in (0..marks.len()).rev() {
-        if marks[place] {
+        if marks.contains(place) {
             mark_each(&lines[place].premises, marks);
         }
     }
-}
-
-// Marks up to the goal, which is counted from 1: the goal alone is marked.
-fn on_goal(alloc: Global, goal: usize) -> Result<Vec<bool>, Memory>
-    requires { 0 < goal }
-    ensures long { IfOk result (λ v. length v.items ≡ goal) }
-    ensures exact { IfOk result (λ v. (n : ℕ) → IsMarked v.items n ↔ (suc n ≡ goal)) }
-{
-    let mut marks = vec![in alloc; false; goal]?;
-    mark(&mut marks, goal - 1);
-    Ok(marks)
 }
 
 /// Of each line up to the goal, which is counted from 1, whether the goal rests on it.
@@ -58,14 +40,14 @@ fn on_goal(alloc: Global, goal: usize) -> Result<Vec<bool>, Memory>
 /// # Errors
 ///
 /// `Memory` where memory was refused.
-pub(crate) fn rests(alloc: Global, lines: &[Line], goal: usize) -> Result<Vec<bool>, Memory>
+pub(crate) fn rests(alloc: Global, lines: &[Line], goal: usize) -> Result<Row, Memory>
     requires before { ArePremisesBefore (lines_of lines.now) }
     requires counted { 0 < goal }
     requires there { goal ≤ length lines.now }
-    ensures long { IfOk result (λ v. length v.items ≡ goal) }
-    ensures exact { IfOk result (λ v. MarksRests (lines_of lines.now) goal v.items) }
+    ensures long { IfOk result (λ r. length r ≡ goal) }
+    ensures exact { IfOk result (λ r. MarksRests (lines_of lines.now) goal r) }
 {
-    let mut marks = on_goal(alloc, goal)?;
+    let mut marks = goal_mark(alloc, goal)?;
     mark_premises(lines, &mut marks);
     Ok(marks)
 }

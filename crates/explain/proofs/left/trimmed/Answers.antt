@@ -1,11 +1,10 @@
-use Rattle.std.proofs.Common.{length, ap, sym, ◌∙◌, subst, arith}
+use Rattle.std.proofs.Common.{sym, arith}
 use Rattle.std.proofs.lemmas.List.{length-map}
 use Rattle.certificate.specs.View.{line_of, lines_of}
 use Rattle.exactness.proofs.Trimmed.{trimmed_all}
 use Rattle.explain.proofs.Before.{premises_before, line_there}
 use Rattle.explain.proofs.HandedOn.{premises_marked}
 use Rattle.explain.proofs.Renumbering.{trimmed_from_kept}
-use Rattle.explain.specs.LineMarks.{MarksRests}
 use Rattle.explain.proofs.left.trimmed.Goals as goal
 
 pub rests-requires-clause-before : goal.rests-requires-clause-before
@@ -13,16 +12,16 @@ rests-requires-clause-before c = premises_before c.requires.derivation.0 (lines_
 
 pub kept-requires-clause-marked : goal.kept-requires-clause-marked
 kept-requires-clause-marked c =
-    premises_marked (lines_of c.args.lines.now) c.args.goal c.deref.result.now
+    premises_marked (lines_of c.args.lines.now) c.args.goal c.in_ok-marks.marks
     (premises_before c.requires.derivation.0 (lines_of c.args.lines.now) c.requires.derivation.1)
-    (subst (MarksRests (lines_of c.args.lines.now) c.args.goal) (sym c.deref.ensures.value) c.in_ok-marks.ensures.exact)
+    c.in_ok-marks.ensures.exact
 
 pub returns-clause-trimmed : goal.returns-clause-trimmed
 returns-clause-trimmed c =
-    trimmed_from_kept (lines_of c.args.lines.now) c.args.goal c.deref.result.now (lines_of c.in_ok-left.left.items)
+    trimmed_from_kept (lines_of c.args.lines.now) c.args.goal c.in_ok-marks.marks (lines_of c.in_ok-left.left.items)
     (premises_before c.requires.derivation.0 (lines_of c.args.lines.now) c.requires.derivation.1)
-    (sym (ap length c.deref.ensures.value ∙ c.in_ok-marks.ensures.long)) c.requires.counted
-    (subst (MarksRests (lines_of c.args.lines.now) c.args.goal) (sym c.deref.ensures.value) c.in_ok-marks.ensures.exact)
+    (sym c.in_ok-marks.ensures.long) c.requires.counted
+    c.in_ok-marks.ensures.exact
     c.in_ok-left.ensures
 
 pub returns-clause-derivation : goal.returns-clause-derivation
