@@ -211,7 +211,7 @@ fn found_members(indexed: &Indexed<'_>, expression: ExprId, marks: &Row) -> Resu
 
 // ---- by what costs less
 
-/// Of so many facts of all one is of the class, as a rule, where looking for one number costs what going over it does.
+/// Each marked name is looked for where there is fewer than one for so many facts. It decides nothing.
 const FACTS_A_SEARCH: usize = 1024;
 
 /// Whether looking for each marked number costs less than going over the facts of the class, as a rule.

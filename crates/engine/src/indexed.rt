@@ -1,7 +1,6 @@
 //! All that an ontology leads to, with the tables that find facts.
-ghost use Rattle.facts.specs.declared.contexts.Fact.{Fact as Fact2};
 ghost use Rattle.indexes.specs.FactIndex.{IsFrom, IsIn};
-ghost use Rattle.inference.specs.Predicates.{IsLast, end_of, predicate_of};
+ghost use Rattle.inference.specs.Predicates.{IsBefore, IsLast, end_of};
 ghost use Rattle.saturate.specs.ServedFacts.{AreNumbersOf};
 ghost use Rattle.std.specs.Prelude.{◌≡◌, Contains, IfNone, IfSome, Some, length, slice_get};
 
@@ -55,10 +54,10 @@ impl<'a> Indexed<'a> {
         self.state.last_of(predicate)
     }
 
-    /// The number of the last fact of the same class, or of the same property, before the fact of that number, if there is one. Needs no
-    /// memory.
+    /// The number of the last fact of the same class, or of the same property, before the fact of that number, if there is one; none where there is
+    /// no fact of that number. Needs no memory.
     pub fn before(&self, number: u32) -> Option<u32>
-        ensures { (f : Fact2) → slice_get self.now.saturation.state.facts number ≡ Some f → IsLast (predicate_of f) self.now.saturation.state.facts number (end_of result) }
+        ensures { IsBefore self.now.saturation.state.facts number result }
     {
         self.state.before(number)
     }

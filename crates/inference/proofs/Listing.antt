@@ -1,16 +1,17 @@
 -- Facts that are listed by what they say, one more or one fewer.
-use Rattle.std.proofs.Common.{◌≡◌, ◌≢◌, ◌⊎◌, ◌↔◌, ℕ, suc, ◌+◌, ◌<◌, ◌≤◌, inl, inr, ⊎_elim, List, [], ◌∷◌, ◌++◌, length, get_or, slice_get, Some, refl, sym, ap, ◌∙◌, subst, arith}
+use Rattle.std.proofs.Common.{◌≡◌, ◌≢◌, ◌⊎◌, ◌↔◌, ℕ, suc, ◌+◌, ◌<◌, ◌≤◌, inl, inr, ⊎_elim, List, [], ◌∷◌, ◌++◌, length, get_or, slice_get, Option, Some, None, refl, sym, ap, ◌∙◌, subst, arith}
+use Rattle.std.specs.Prelude.{MatchOption, slice_index}
 use Rattle.std.proofs.lemmas.Bool.{cases_eq, cases_lt}
 use Rattle.std.proofs.lemmas.List.{length_push, get_or_append_left, get_or_past}
 use Rattle.std.proofs.lemmas.Option.{none-some, same_Some, slice_get_within}
 use Rattle.std.proofs.Math.Seq.{get_or-append_seam}
-use Rattle.lemmas.proofs.Places.{slice_get_push_cases, slice_get_push, keeps_push}
+use Rattle.lemmas.proofs.Places.{slice_get_push_cases, slice_get_push, slice_get_there, keeps_push}
 use Rattle.normal_forms.specs.declared.forms.Class2.TheVariants as classes
 use Rattle.normal_forms.specs.declared.forms.PropId2.TheVariants as properties
 use Rattle.facts.specs.declared.contexts.Fact.{Fact}
 use Rattle.inference.specs.declared.predicates.Predicate.{Predicate}
 use Rattle.inference.specs.declared.predicates.Predicate.TheVariants.{Class, Property}
-use Rattle.inference.specs.Predicates.{AreListed, Ends, HasEnd, IsLast, SaysAt, end_at, predicate_of}
+use Rattle.inference.specs.Predicates.{AreListed, Ends, HasPlace, IsBefore, IsLast, Linked, SaysAt, end_at, end_of, predicate_of}
 
 -- two predicates are one or apart
 pub same_or_apart : (p q : Predicate) → (p ≡ q) ⊎ (p ≢ q)
@@ -32,11 +33,11 @@ behind list k n low = elim (cases_lt k (length list)) [
 ]
 
 -- a list that ends behind a fact has a place
-pub has_end : (ends : Ends) (q : Predicate) (n : ℕ) → n < end_at ends q → HasEnd ends q
-has_end ends (Class (classes.Expr a)) n low = behind ends.classes a.0 n low
-has_end ends (Class (classes.Partial a)) n low = behind ends.partial_classes a n low
-has_end ends (Property (properties.Property p)) n low = behind ends.properties p.0 n low
-has_end ends (Property (properties.Partial p)) n low = behind ends.partial_properties p n low
+pub has_place : (ends : Ends) (q : Predicate) (n : ℕ) → n < end_at ends q → HasPlace ends q
+has_place ends (Class (classes.Expr a)) n low = behind ends.classes a.0 n low
+has_place ends (Class (classes.Partial a)) n low = behind ends.partial_classes a n low
+has_place ends (Property (properties.Property p)) n low = behind ends.properties p.0 n low
+has_place ends (Property (properties.Partial p)) n low = behind ends.partial_properties p n low
 
 -- what one says of the fact at a number
 says_of : (facts : List Fact) (q : Predicate) (n : ℕ) (f : Fact) → slice_get facts n ≡ Some f → SaysAt q facts n → predicate_of f ≡ q
@@ -131,7 +132,7 @@ last_below facts fact q end apart old = record {
   rest = λ n low says. old.rest n (omega (arith, low, length_push facts fact)) (says_more facts fact q n says);
 }
 
-pub listed_pop : (facts : List Fact) (fact : Fact) (old new : Ends) (before before' : List ℕ) (end : ℕ) → before ≡ before' ++ end ∷ [] → (HasEnd old (predicate_of fact) → end_at new (predicate_of fact) ≡ end)
+pub listed_pop : (facts : List Fact) (fact : Fact) (old new : Ends) (before before' : List ℕ) (end : ℕ) → before ≡ before' ++ end ∷ [] → (HasPlace old (predicate_of fact) → end_at new (predicate_of fact) ≡ end)
     → ((q : Predicate) → q ≢ predicate_of fact → end_at new q ≡ end_at old q)
     → AreListed (facts ++ fact ∷ []) (record { ends = old; before = before }) → AreListed facts (record { ends = new; before = before' })
 listed_pop facts fact old new before before' end popped here others are = record {
@@ -149,8 +150,8 @@ listed_pop facts fact old new before before' end popped here others are = record
     long : length before' ≡ length facts
     long = omega (arith, are.long, ap length popped, length_push before' end, length_push facts fact)
 
-    place : HasEnd old (predicate_of fact)
-    place = has_end old (predicate_of fact) (length facts) ((are.last (predicate_of fact)).rest (length facts) (omega (arith, length_push facts fact)) (fact, slice_get_push facts fact, refl))
+    place : HasPlace old (predicate_of fact)
+    place = has_place old (predicate_of fact) (length facts) ((are.last (predicate_of fact)).rest (length facts) (omega (arith, length_push facts fact)) (fact, slice_get_push facts fact, refl))
 
     seam : get_or before (length facts) 0 ≡ end
     seam = rw popped (ap (λ k. get_or (before' ++ end ∷ []) k 0) (sym long) ∙ get_or-append_seam before' end [] 0)
@@ -166,14 +167,6 @@ listed_same facts old new before same are = record {
   before = are.before;
 }
 
--- no facts
-pub listed_none : (ends : Ends) → ((q : Predicate) → end_at ends q ≡ 0) → AreListed [] (record { ends = ends; before = [] })
-listed_none ends none = record {
-  long = refl;
-  last = λ q. rw (none q) (record { within = omega arith; there = λ n e. absurd (omega (arith, e)); rest = λ n low. absurd (omega (arith, low)) });
-  before = λ n f there. absurd (none-some f there);
-}
-
 -- ---- a walk from the last to the first
 
 -- from the end of the list on nothing says so
@@ -181,8 +174,28 @@ pub none_from : (q : Predicate) (facts : List Fact) (end : ℕ) → IsLast q fac
 none_from q facts end last n high says = absurd (omega (arith, high, last.rest n (says_within facts q n says) says))
 
 -- what comes before a fact of the predicate is of it, too
-pub before_as : (q : Predicate) (facts : List Fact) (n end : ℕ) → SaysAt q facts n → ((f : Fact) → slice_get facts n ≡ Some f → IsLast (predicate_of f) facts n end) → IsLast q facts n end
-before_as q facts n end says before = subst (λ (p : Predicate). IsLast p facts n end) says.2 (before says.0 says.1)
+pub before_as : (q : Predicate) (facts : List Fact) (n : ℕ) (found : Option ℕ) → SaysAt q facts n → IsBefore facts n found → IsLast q facts n (end_of found)
+before_as q facts n found says before =
+    subst (λ (p : Predicate). IsLast p facts n (end_of found)) says.2
+    (subst (λ (o : Option Fact). MatchOption o (found ≡ None) (λ f. IsLast (predicate_of f) facts n (end_of found))) says.1 before)
+
+-- what is linked is found
+none_found : (found : Option ℕ) → end_of found ≡ 0 → found ≡ None
+none_found None e = refl
+none_found (Some n) e = absurd (omega (arith, e))
+
+pub is_before : (facts : List Fact) (lists : Linked) (n : ℕ) (found : Option ℕ) → AreListed facts lists → end_of found ≡ slice_index lists.before n → IsBefore facts n found
+is_before facts lists n found are is = go (slice_get facts n) refl
+  where
+    no_place : (facts : List Fact) (n : ℕ) → slice_get facts n ≡ None → length facts ≤ n
+    no_place facts n e = elim (cases_lt n (length facts)) [
+      | inl l ↦ (let there = slice_get_there facts n l in absurd (none-some there.0 (sym e ∙ there.1)))
+      | inr h ↦ h
+    ]
+
+    go : (o : Option Fact) → slice_get facts n ≡ o → MatchOption o (found ≡ None) (λ f. IsLast (predicate_of f) facts n (end_of found))
+    go None e = none_found found (is ∙ get_or_past lists.before n 0 (omega (arith, are.long, no_place facts n e)))
+    go (Some f) e = subst (λ (end : ℕ). IsLast (predicate_of f) facts n end) (sym is) (are.before n f e)
 
 -- from the one before on there is that fact, and then what came behind it
 pub on_from : (q : Predicate) (facts : List Fact) (number end : ℕ) → SaysAt q facts number → IsLast q facts number end

@@ -1,5 +1,5 @@
 -- Facts by what they say of contexts: lists of those of each class, and of each property, from the last to the first.
-use Rattle.std.specs.Prelude.{◌≡◌, ◌<◌, ◌≤◌, ℕ, suc, List, length, slice_get, slice_index, Option, Some, None}
+use Rattle.std.specs.Prelude.{◌≡◌, ◌<◌, ◌≤◌, ℕ, suc, List, length, slice_get, slice_index, MatchOption, Option, Some, None}
 use Rattle.normal_forms.specs.declared.forms.Class2.TheVariants as classes
 use Rattle.normal_forms.specs.declared.forms.PropId2.TheVariants as properties
 use Rattle.facts.specs.declared.contexts.Fact.{Fact}
@@ -27,6 +27,10 @@ pub record IsLast (q : Predicate) (facts : List Fact) (bound end : ℕ) : Type 0
   pub there : (n : ℕ) → end ≡ suc n → SaysAt q facts n
   pub rest : (n : ℕ) → n < bound → SaysAt q facts n → n < end
 
+-- of the facts before the one of that number the last that says the same is found; none where there is no fact of that number
+abbrev pub IsBefore : List Fact → ℕ → Option ℕ → Type 0
+IsBefore facts number found = MatchOption (slice_get facts number) (found ≡ None) (λ f. IsLast (predicate_of f) facts number (end_of found))
+
 -- by number the ends of lists: each is 0 past the last
 pub record Ends : Type 0 where
   pub classes : List ℕ
@@ -41,12 +45,12 @@ end_at ends (Class (classes.Partial n)) = slice_index ends.partial_classes n
 end_at ends (Property (properties.Property p)) = slice_index ends.properties p.0
 end_at ends (Property (properties.Partial n)) = slice_index ends.partial_properties n
 
--- it has a place
-abbrev pub HasEnd : Ends → Predicate → Type 0
-HasEnd ends (Class (classes.Expr e)) = e.0 < length ends.classes
-HasEnd ends (Class (classes.Partial n)) = n < length ends.partial_classes
-HasEnd ends (Property (properties.Property p)) = p.0 < length ends.properties
-HasEnd ends (Property (properties.Partial n)) = n < length ends.partial_properties
+-- the list of the predicate has an end, at a place
+abbrev pub HasPlace : Ends → Predicate → Type 0
+HasPlace ends (Class (classes.Expr e)) = e.0 < length ends.classes
+HasPlace ends (Class (classes.Partial n)) = n < length ends.partial_classes
+HasPlace ends (Property (properties.Property p)) = p.0 < length ends.properties
+HasPlace ends (Property (properties.Partial n)) = n < length ends.partial_properties
 
 -- ends, and by number of a fact the end of the list of its predicate before it
 pub record Linked : Type 0 where

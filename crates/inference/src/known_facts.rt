@@ -3,7 +3,7 @@ ghost use Rattle.facts.specs.Births.{reason};
 ghost use Rattle.inference.specs.Derivations.{with_fact};
 ghost use Rattle.inference.specs.Flags.{HasEntryFacts};
 ghost use Rattle.inference.specs.Marks.{AreMarks, IsMark};
-ghost use Rattle.inference.specs.Predicates.{AreListed, IsLast, end_of, predicate_of};
+ghost use Rattle.inference.specs.Predicates.{AreListed, IsBefore, IsLast, end_of};
 ghost use Rattle.inference.specs.Visits.{IsBy};
 ghost use Rattle.facts.specs.declared.contexts.Fact.{Fact as Fact2};
 ghost use Rattle.normal_forms.specs.declared.forms.PropId2.TheVariants as properties;
@@ -171,9 +171,10 @@ impl KnownFacts {
         self.lists.last(predicate)
     }
 
-    /// The number of the last fact of the same class, or of the same property, before the fact of that number, if there is one.
+    /// The number of the last fact of the same class, or of the same property, before the fact of that number, if there is one; none where there is
+    /// no fact of that number.
     pub fn before(&self, number: u32) -> Option<u32>
-        ensures { (f : Fact2) → slice_get self.now.facts number ≡ Some f → IsLast (predicate_of f) self.now.facts number (end_of result) }
+        ensures { IsBefore self.now.facts number result }
     {
         self.lists.before(number)
     }

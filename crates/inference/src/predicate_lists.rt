@@ -1,6 +1,6 @@
 //! Facts by what they say: those of each class, and those of each property, from the last to the first.
 ghost use Rattle.facts.specs.declared.contexts.Fact.{Fact as AFact};
-ghost use Rattle.inference.specs.Predicates.{AreListed, HasEnd, IsLast, end_at, end_of, predicate_of};
+ghost use Rattle.inference.specs.Predicates.{AreListed, HasPlace, IsBefore, IsLast, end_at, end_of, predicate_of};
 ghost use Rattle.inference.specs.declared.predicates.Predicate.{Predicate as APredicate};
 ghost use Rattle.std.specs.Prelude.{◌≡◌, ◌≢◌, ◌<◌, ◌++◌, ◌∷◌, [], ℕ, IfOk, List, OnErr, OnOk, Some, length, slice_get, slice_index};
 
@@ -44,7 +44,7 @@ impl Model for PredicateLists {
     ghost view = { λ l. record { ends = l.ends; before = l.before.items } };
 }
 
-/// The same items, with room for as many more. Fails where memory is refused.
+/// The same items, with as much room. Fails where memory is refused.
 pub(crate) fn copied<T: Copy>(items: &Vec<T>) -> Result<Vec<T>, Memory>
     ensures { IfOk result (λ copy. copy.items ≡ items.now.items) }
 {
@@ -100,7 +100,7 @@ impl Ends {
         }
     }
 
-    /// The same ends, with room for as many more. Fails where memory is refused.
+    /// The same ends, with as much room. Fails where memory is refused.
     fn copy(&self) -> Result<Ends, Memory>
         ensures { IfOk result (λ copy. copy ≡ self.now) }
     {
@@ -137,7 +137,7 @@ impl Ends {
     #[inline(always)]
     fn lengthen(&mut self, predicate: Predicate) -> Result<(), Memory>
         ensures same { (q : APredicate) → end_at self.new q ≡ end_at self.old q }
-        ensures there { OnOk result (HasEnd self.new predicate) }
+        ensures there { OnOk result (HasPlace self.new predicate) }
     {
         match predicate {
             Predicate::Class(Class2::Expr(ExprId(class))) => lengthen(&mut self.classes, class),
@@ -154,7 +154,7 @@ impl Ends {
     /// Puts the end of the list of the predicate, where it has one.
     #[inline(always)]
     fn replace(&mut self, predicate: Predicate, end: u32)
-        ensures here { HasEnd self.old predicate → end_at self.new predicate ≡ end }
+        ensures here { HasPlace self.old predicate → end_at self.new predicate ≡ end }
         ensures others { (q : APredicate) → q ≢ predicate → end_at self.new q ≡ end_at self.old q }
     {
         match predicate {
@@ -191,7 +191,7 @@ impl PredicateLists {
         }
     }
 
-    /// The same lists, with room for as many facts more. Fails where memory is refused.
+    /// The same lists, with as much room. Fails where memory is refused.
     pub(crate) fn copy(&self) -> Result<PredicateLists, Memory>
         ensures { IfOk result (λ copy. copy ≡ self.now) }
     {
@@ -238,9 +238,10 @@ impl PredicateLists {
         last_before(self.ends.of(predicate))
     }
 
-    /// The number of the last fact before the one of that number that says the same, if there is one.
+    /// The number of the last fact before the one of that number that says the same, if there is one; none where there is no fact of that
+    /// number.
     pub(crate) fn before(&self, number: u32) -> Option<u32>
-        ensures { (facts : List AFact) (f : AFact) → AreListed facts self.now → slice_get facts number ≡ Some f → IsLast (predicate_of f) facts number (end_of result) }
+        ensures { (facts : List AFact) → AreListed facts self.now → IsBefore facts number result }
     {
         last_before(end_in(&self.before, number))
     }

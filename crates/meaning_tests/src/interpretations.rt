@@ -69,8 +69,8 @@ fn all_numbers(rt: HostRuntime) -> Result<(), Fail> {
     Ok(())
 }
 
-/// Whether the set of 0 and 69 of numbers below 70 still has them, and no other, where it is extended to numbers below `n`, and takes the
-/// last of those that it is of then.
+/// Whether the set of 0 and 69, of numbers below 70, extended to numbers below `n`, has these two alone, takes `last` and refuses the
+/// number behind it.
 fn is_extended(alloc: Global, n: usize, last: usize) -> Result<bool, Memory> {
     let mut row = row_of(alloc, &[0, 69])?.extended(alloc, n)?;
     let has_both = row.contains(0) && row.contains(69) && row.count() == 2;

@@ -30,10 +30,8 @@ pub of_both : (xs ys zs : List ℕ) → zs ≡ xs ++ ys → (e : ℕ) → Contai
 of_both xs ys zs is e h = subst (λ l. Contains l e) (sym is) (elim h [ inl c ↦ Contains-append_left xs ys e c | inr c ↦ Contains-append_right xs ys e c ])
 
 -- the same lists, by other names
-pub express_at : {s t : Made} (nodes : List Node) (r r' b b' l l' a a' : List Bool) (numbers numbers' : List ℕ) → r ≡ r' → b ≡ b' → l ≡ l' → a ≡ a' → numbers ≡ numbers' → Adds s t (ExpressedTo nodes (IsFreshAt r b) (IsFreshAt l a) numbers (length numbers)) → Adds s t (ExpressedTo nodes (IsFreshAt r' b') (IsFreshAt l' a') numbers' (length numbers'))
-express_at {s} {t} nodes r r' b b' l l' a a' numbers numbers' er eb el ea en h =
-    subst (λ xs. Adds s t (ExpressedTo nodes (IsFreshAt r' b') (IsFreshAt l' a') xs (length xs))) en
-    (subst (λ xs. Adds s t (ExpressedTo nodes (IsFreshAt r' b') (IsFreshAt l' xs) numbers (length numbers))) ea
-    (subst (λ xs. Adds s t (ExpressedTo nodes (IsFreshAt r' b') (IsFreshAt xs a) numbers (length numbers))) el
-    (subst (λ xs. Adds s t (ExpressedTo nodes (IsFreshAt r' xs) (IsFreshAt l a) numbers (length numbers))) eb
-    (subst (λ xs. Adds s t (ExpressedTo nodes (IsFreshAt xs b) (IsFreshAt l a) numbers (length numbers))) er h))))
+pub express_at : {s t : Made} (nodes : List Node) (r b b' l a a' : List Bool) (numbers numbers' : List ℕ) → b ≡ b' → a ≡ a' → numbers ≡ numbers' → Adds s t (ExpressedTo nodes (IsFreshAt r b) (IsFreshAt l a) numbers (length numbers)) → Adds s t (ExpressedTo nodes (IsFreshAt r b') (IsFreshAt l a') numbers' (length numbers'))
+express_at {s} {t} nodes r b b' l a a' numbers numbers' eb ea en h =
+    subst (λ xs. Adds s t (ExpressedTo nodes (IsFreshAt r b') (IsFreshAt l a') xs (length xs))) en
+    (subst (λ xs. Adds s t (ExpressedTo nodes (IsFreshAt r b') (IsFreshAt l xs) numbers (length numbers))) ea
+    (subst (λ xs. Adds s t (ExpressedTo nodes (IsFreshAt r xs) (IsFreshAt l a) numbers (length numbers))) eb h))

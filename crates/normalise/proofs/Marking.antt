@@ -70,14 +70,6 @@ lacks_mark [] n l h = absurd (omega arith)
 lacks_mark (b ∷ marks) zero l h = ap Some h
 lacks_mark (b ∷ marks) (suc n) l h = lacks_mark marks n (omega arith) h
 
-pub unset_lacks : (marks : List Bool) (n : ℕ) → slice_get marks n ≡ Some false → (n < length marks) × (has marks n ≡ false)
-unset_lacks marks n h = (slice_get_within marks n false h, go marks n h)
-  where
-    go : (marks : List Bool) (n : ℕ) → slice_get marks n ≡ Some false → has marks n ≡ false
-    go [] n h = refl
-    go (b ∷ marks) zero h = same_Some b false h
-    go (b ∷ marks) (suc n) h = go marks n h
-
 -- ---- with what is noted
 
 pub contains_kept : {X : Type 0} (xs ys : List X) → Keeps xs ys → (x : X) → Contains xs x → Contains ys x

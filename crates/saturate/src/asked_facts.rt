@@ -107,7 +107,7 @@ fn flag_by(
     flag_all(flags, Predicate::Property(property), facts)
 }
 
-/// Whether none of the forms puts a property below another, or is a chain.
+/// Whether none of the forms puts a property below another, or is a chain, as far as that is told: it decides only what a search costs.
 fn begin_with_none(forms: &FormList) -> bool
     ensures { result ≡ true → (all : List Form2) (f : Fact2) → HasForm (λ form. NamesEdge all form f) forms.now → ⊥ }
 {
@@ -168,6 +168,7 @@ fn flag_individual(flags: &mut Flags, individual: IndId, index: &Index) -> Resul
     flag_numbers(flags, index.edges_into(context))
 }
 
+/// Whether the list has the property.
 fn is_listed(list: &[PropId2], property: PropId2) -> bool
     ensures { IsTrue result ↔ Contains list.now property }
 {
@@ -268,7 +269,8 @@ fn flag_of_individuals(
 
 // ---- all
 
-/// Flags the facts for which one of the forms or lists of the added problem asks, of those that the index lists.
+/// Of the facts that the index lists flags exactly those for which one of the forms or lists of the added problem asks. Others may be
+/// flagged, too.
 fn flag_asked(
     flags: &mut Flags,
     added: &IndexedProblem,
@@ -289,7 +291,7 @@ fn flag_asked(
     flag_of_individuals(flags, added.forms(), ground, index, facts)
 }
 
-/// Flags of the facts for which one of the forms or lists asks, of those that the index lists.
+/// Of the facts that the index lists exactly those are flagged for which one of the forms or lists asks. Others may be flagged, too.
 pub(crate) fn flags_of_asked(
     alloc: Global,
     ground: &Ground,

@@ -28,7 +28,8 @@ use normal_forms::{Form, FormList};
 use std::alloc::Global;
 use work_list::WorkList;
 
-/// Of the facts that the index lists whether a new one of the forms from that number on, or a new list, asks for them.
+/// Of the facts that the index lists exactly those are flagged for which a new one of the forms from that number on, or a new list, asks.
+/// Others may be flagged, too.
 fn flags_of(
     alloc: Global,
     earlier: &Ground,

@@ -109,7 +109,7 @@ fn list_second(
     Ok(())
 }
 
-/// Lists the edges by the property as second premises that have to be one at all.
+/// Lists as second premises those edges by the property that have to be such at all.
 fn list_all(
     ground: &Ground,
     property: PropId2,

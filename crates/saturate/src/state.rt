@@ -1,14 +1,13 @@
 //! The state of a saturation.
 ghost use Rattle.std.specs.Prelude.{OnErr, ◌≡◌, ◌↔◌, ◌<◌, ◌≤◌, ◌+◌, ◌^◌, Ok, Err, Some, true, false, [], Contains, drop, length, slice_get, take, IfOk, OnOk, IfSome, IfNone};
 ghost use Rattle.facts.specs.Births.{reason};
-ghost use Rattle.facts.specs.declared.contexts.Fact.{Fact as Fact2};
 ghost use Rattle.inference.specs.Derivations.{HasMoreFactsThan};
 ghost use Rattle.saturate.specs.State.{Extends, GaveFact, ended, nothing_seen};
 ghost use Rattle.saturate.specs.Growth.{HasGrown, KeepsServed};
 ghost use Rattle.saturate.specs.Run.{HasRun, IsLeft, IsState, IsStep};
 ghost use Rattle.inference.specs.PropertyClosures.{IsClosureOf};
 ghost use Rattle.inference.specs.Completeness.{IsClosure};
-ghost use Rattle.inference.specs.Predicates.{IsLast, end_of, predicate_of};
+ghost use Rattle.inference.specs.Predicates.{IsBefore, IsLast, end_of};
 ghost use Rattle.normal_forms.specs.Apart.{AreContinuedBy};
 
 use crate::extension::carry_on;
@@ -253,9 +252,10 @@ impl<W: WorkList> State<W> {
         self.facts.last_of(predicate)
     }
 
-    /// The number of the last fact of the same class, or of the same property, before the fact of that number, if there is one.
+    /// The number of the last fact of the same class, or of the same property, before the fact of that number, if there is one; none where there is
+    /// no fact of that number.
     pub fn before(&self, number: u32) -> Option<u32>
-        ensures { (f : Fact2) → slice_get self.now.facts number ≡ Some f → IsLast (predicate_of f) self.now.facts number (end_of result) }
+        ensures { IsBefore self.now.facts number result }
     {
         self.facts.before(number)
     }

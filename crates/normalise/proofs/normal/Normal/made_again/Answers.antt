@@ -1,4 +1,4 @@
-use Rattle.std.proofs.Common.{◌≡◌, inl, inr, length, Contains, take, refl, sym, ap, ◌∙◌, subst}
+use Rattle.std.proofs.Common.{◌≡◌, inl, inr, length, Contains, take, sym, ap, ◌∙◌, subst}
 use Rattle.std.proofs.lemmas.List.{length-map}
 use Rattle.axioms.specs.View.{axiom_of}
 use Rattle.axioms.specs.WellFormedness.{AreDistinct}
@@ -35,5 +35,5 @@ returns c =
         | inl x ↦ inl (subst (λ xs. Contains xs e) (sym c.deref.ensures.value) (elim (c.requires.right e x.0) [ inl old ↦ absurd (x.1 old) | inr new ↦ new ]))
         | inr x ↦ inr (subst (λ xs. Contains xs e) (sym c.deref-2.ensures.value) (elim (c.requires.left e x.0) [ inl old ↦ absurd (x.1 old) | inr new ↦ new ]))
       ]);
-      expresses = express_at p.nodes _ _ _ _ _ _ _ _ _ _ refl (ap (λ (v : Listing). v.right) c.self.view_is) refl (ap (λ (v : Listing). v.left) c.self.view_is) c.deref-3.ensures.value c.in_ok-express_all.ensures;
+      expresses = express_at p.nodes _ _ _ _ _ _ _ _ (ap (λ (v : Listing). v.right) c.self.view_is) (ap (λ (v : Listing). v.left) c.self.view_is) c.deref-3.ensures.value c.in_ok-express_all.ensures;
     }
