@@ -1,8 +1,8 @@
 //! Facts by what they say: those of each class, and those of each property, from the last to the first.
 ghost use Rattle.facts.specs.declared.contexts.Fact.{Fact as AFact};
-ghost use Rattle.inference.specs.Predicates.{AreListed, HasPlace, IsBefore, IsLast, end_at, end_of, predicate_of};
+ghost use Rattle.inference.specs.Predicates.{AreListed, HasPlace, IsBefore, IsLast, end_at, end_of};
 ghost use Rattle.inference.specs.declared.predicates.Predicate.{Predicate as APredicate};
-ghost use Rattle.std.specs.Prelude.{◌≡◌, ◌≢◌, ◌<◌, ◌++◌, ◌∷◌, [], ℕ, IfOk, List, OnErr, OnOk, Some, length, slice_get, slice_index};
+ghost use Rattle.std.specs.Prelude.{◌≡◌, ◌≢◌, ◌<◌, ◌++◌, ◌∷◌, [], ℕ, IfOk, List, OnErr, OnOk, length, slice_index};
 
 use crate::predicates::Predicate;
 use axioms::{ExprId, Memory, PropId};
